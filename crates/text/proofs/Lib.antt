@@ -1,0 +1,5 @@
+pub mod Digits
+pub mod Laws
+pub mod Store
+pub mod Sign
+pub mod Fixed

@@ -1,0 +1,4 @@
+pub mod Word
+pub mod Majority
+pub mod Rule
+pub mod Fixes

@@ -1,0 +1,103 @@
+// Document 01, 'Words': the kinds of a word, reading, wrapping, unwrapping, and the hybrid majority.
+ghost use mathlib.Core.Path.{_≡_};
+ghost use lib.ListN.{length};
+ghost use Rattle.words.specs.Word.{kindOf, readAt, wrapped, unwrapped};
+ghost use Rattle.words.specs.Majority.{kept};
+ghost use Rattle.words.specs.Rule.{omh, majorityBy};
+
+// Missing, unwrapped.
+pub const E: i32 = 1_000_000_000;
+
+// A missing word has its wraps.
+pub enum Kind {
+    Ordinary,
+    Missing(usize),
+    Bad,
+}
+
+pub fn kind_of(word: i32) -> Kind
+    ensures { λ r. ⌜ r ≡ kindOf word ⌝ }
+{
+    match word {
+        -999_999_999..=999_999_999 => Kind::Ordinary,
+        1_000_000_000..=1_000_000_003 => Kind::Missing((word - 1_000_000_000) as usize),
+        _ => Kind::Bad,
+    }
+}
+
+// The word as it reads at a level.
+pub fn read_at(level: usize, word: i32) -> i32
+    ensures { λ r. ⌜ r ≡ readAt level word ⌝ }
+{
+    match kind_of(word) {
+        Kind::Ordinary => word,
+        Kind::Missing(wraps) => { if wraps <= level { word } else { E } }
+        Kind::Bad => E,
+    }
+}
+
+pub fn wrap(word: i32) -> i32
+    ensures { λ r. ⌜ r ≡ wrapped word ⌝ }
+{
+    match kind_of(word) {
+        Kind::Ordinary => word,
+        Kind::Missing(wraps) => { if wraps < 3 { word + 1 } else { E } }
+        Kind::Bad => E,
+    }
+}
+
+pub fn unwrap(word: i32) -> i32
+    ensures { λ r. ⌜ r ≡ unwrapped word ⌝ }
+{
+    match kind_of(word) {
+        Kind::Ordinary => word,
+        Kind::Missing(wraps) => { if wraps == 0 { E } else { word - 1 } }
+        Kind::Bad => E,
+    }
+}
+
+// Whether the word is struck from a vote.
+fn is_struck(word: i32) -> bool
+    ensures { λ r. ⌜ r ≡ omh .struck word ⌝ }
+{
+    word == E
+}
+
+// How many words of the list are not struck.
+fn kept_len(list: &[i32]) -> usize
+    ensures { λ r. ⌜ r ≡ length (kept (omh .struck) (now (list .entry))) ⌝ }
+{
+    let mut n: usize = 0;
+    for i in 0..list.len() {
+        if !is_struck(list[i]) {
+            n += 1;
+        }
+    }
+    n
+}
+
+// The word that more than half of the words other than E are, else E.
+pub fn majority(list: &[i32]) -> i32
+    ensures { λ r. ⌜ r ≡ majorityBy omh (now (list .entry)) ⌝ }
+{
+    let half = kept_len(list) / 2;
+    let mut i = 0;
+    'outer: loop {
+        if i == list.len() {
+            break 'outer E;
+        }
+        let w = list[i];
+        if !is_struck(w) {
+            let mut seen: usize = 0;
+            for j in 0..list.len() {
+                if list[j] == w {
+                    seen += 1;
+                    if half < seen {
+                        break 'outer w;
+                    }
+                }
+            }
+        }
+        i += 1;
+    }
+}
