@@ -1,0 +1,7 @@
+pub mod Bools
+pub mod Verdicts
+pub mod Levels
+pub mod Live
+pub mod Asking
+pub mod Tables
+pub mod Fixed

@@ -1,0 +1,3 @@
+pub mod Vote
+pub mod Members
+pub mod Asked
