@@ -1,0 +1,98 @@
+-- Laws of a run of enterings from a book just opened: document 01's demand 3.
+use Prim.Native.Nat.{ℕ, _<_}
+use mathlib.Core.Path.{_≡_, refl, sym, ap, _∙_}
+use mathlib.Core.Bool.{Bool, true, false, cond, _&&_}
+use mathlib.Core.List.{List, [], _∷_}
+use native.Mathlib.Omega.{arith}
+use lib.Dec.{T, eqb, eqb→eq}
+use lib.IntN.{ℤ, pos}
+use lib.ListN.{length-replicate, getD-replicate}
+use Rattle.words.specs.Word.{E}
+use Rattle.words.specs.Rule.{Rule}
+use Rattle.words.proofs.Lawful.{Lawful}
+use Rattle.paths.specs.Rack.{Rack}
+use Rattle.paths.specs.Slots.{slots, live}
+use Rattle.paths.proofs.Live.{live-slot}
+use Rattle.paths.proofs.Tables.{is-table}
+use Rattle.vote.specs.Vote.{at, vote}
+use Rattle.vote.proofs.Choices.{cond-case, cond-same}
+use Rattle.vote.proofs.Votes.{vote-none}
+use Rattle.book.specs.Book.{Book, opened, holds, stored, entered}
+use Rattle.book.specs.Run.{Entry, step, run, accepted, leaves, wordsLeft, Sized, Agrees}
+use Rattle.book.proofs.Along.{at-set}
+use Rattle.book.proofs.Entering.{entered-sized, entered-agrees}
+
+-- ---- a book just opened
+
+-- its lists have their right length
+pub opened-sized : (R : Rule) → Sized (opened R)
+unfolding opened
+opened-sized R = record { words-long = length-replicate slots E; votes-long = length-replicate slots (R .none) }
+
+-- every word is missing
+opened-word : (R : Rule) (k : ℕ) → k < slots → at (opened R .words) k ≡ E
+unfolding opened
+opened-word R k h = getD-replicate slots k E (pos 0) h
+
+-- every vote is the word for none
+opened-vote : (R : Rule) (k : ℕ) → k < slots → at (opened R .votes) k ≡ R .none
+unfolding opened
+opened-vote R k h = getD-replicate slots k (R .none) (pos 0) h
+
+module _ (R : Rule) (S : Rack) where
+  -- ---- what an entering keeps a run keeps
+
+  run-keeps : (P : Book → Type 0) → ((b : Book) (e : Entry) → P b → P (step R S b e)) → (b : Book) (es : List Entry) → P b → P (run R S b es)
+  unfolding run
+  run-keeps P f b [] p = p
+  run-keeps P f b (e ∷ es) p = run-keeps P f (step R S b e) es (f b e p)
+
+  -- the lists keep their length, the entering refused or not
+  pub step-sized : (b : Book) (e : Entry) → Sized b → Sized (step R S b e)
+  unfolding step
+  step-sized b e z = cond-case Sized (live S (e .slot)) _ _ (λ t. entered-sized R S b (e .slot) (e .word) z) (λ n. z)
+
+  -- ---- the words after a run
+
+  -- an accepted word is held at its slot as `holds` says, and no other word changes
+  step-word : (b : Book) (e : Entry) (k : ℕ) → Sized b → at (step R S b e .words) k ≡ cond (accepted S k e) (holds (at (b .words) k) (e .word)) (at (b .words) k)
+  unfolding step entered stored
+  step-word b e k z = go (live S (e .slot)) (λ t. live-slot S (e .slot) t)
+    where
+      go : (l : Bool) → (T l → e .slot < slots) → at (cond l (entered R S b (e .slot) (e .word)) b .words) k ≡ cond (l && eqb (e .slot) k) (holds (at (b .words) k) (e .word)) (at (b .words) k)
+      go true h =
+          at-set (b .words) (e .slot) k _ (omega (arith, h tt, z .words-long))
+          ∙ cond-same (eqb (e .slot) k) _ _ _ _ (λ t. ap (λ (s : ℕ). holds (at (b .words) s) (e .word)) (eqb→eq (e .slot) k t)) (λ n. refl)
+      go false h = refl
+
+  -- after a run a slot holds what the accepted words leave there
+  run-word : (es : List Entry) (b : Book) (k : ℕ) → Sized b → at (run R S b es .words) k ≡ leaves S k es (at (b .words) k)
+  unfolding run leaves
+  run-word [] b k z = refl
+  run-word (e ∷ es) b k z = run-word es (step R S b e) k (step-sized b e z) ∙ ap (leaves S k es) (step-word b e k z)
+
+  -- after a run from a book just opened the words are those that its accepted words leave
+  pub run-words : (es : List Entry) → run R S (opened R) es .words ≡ wordsLeft S es
+  unfolding wordsLeft
+  run-words es =
+      is-table slots _ (pos 0) _ (run-keeps Sized step-sized (opened R) es (opened-sized R) .words-long)
+      (λ k h. run-word es (opened R) k (opened-sized R) ∙ ap (leaves S k es) (opened-word R k h))
+
+  -- ---- the votes after a run
+
+  module _ (L : Lawful R) where
+    -- in a book just opened every live held vote is the vote from the words
+    pub opened-agrees : Agrees R S (opened R)
+    opened-agrees k t =
+        opened-vote R k (live-slot S k t) ∙ sym (vote-none R S L (opened R .words) (λ s u. opened-word R s (live-slot S s u)) k t)
+
+    -- and after an entering they still are, refused or not
+    pub step-agrees : (b : Book) (e : Entry) → Sized b → Agrees R S b → Agrees R S (step R S b e)
+    unfolding step
+    step-agrees b e z h = cond-case (Agrees R S) (live S (e .slot)) _ _ (λ t. entered-agrees R S b (e .slot) (e .word) L t z h) (λ n. h)
+
+    -- after a run from a book just opened each live held vote is the vote worked out afresh from the words left
+    pub run-votes : (es : List Entry) (k : ℕ) → T (live S k) → at (run R S (opened R) es .votes) k ≡ vote R S (wordsLeft S es) k
+    run-votes es k t =
+        run-keeps (λ b. Sized b × Agrees R S b) (λ b e p. (step-sized b e (p .0), step-agrees b e (p .0) (p .1))) (opened R) es (opened-sized R, opened-agrees) .1 k t
+        ∙ ap (λ (l : List ℤ). vote R S l k) (run-words es)

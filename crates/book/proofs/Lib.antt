@@ -1,0 +1,12 @@
+pub mod Leaf
+pub mod Along
+pub mod Entering
+pub mod FromOpening
+pub mod Refilling
+pub mod OnlyLive
+pub mod LastWord
+pub mod Steps
+pub mod Demand3
+pub mod Outcomes
+pub mod Calls
+pub mod Fixed

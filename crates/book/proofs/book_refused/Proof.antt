@@ -1,0 +1,32 @@
+-- `book::book_refused` meets its contract: the settings' verdict, then the lists' length.
+use mathlib.Core.Path.{_≡_, sym, ap, _∙_}
+use mathlib.Core.Bool.{not}
+use borrow.Author.Needs.{needs}
+use Rattle.paths.specs.Rack.{settingsChecks}
+use Rattle.paths.proofs.Verdicts.{still-refused, refused-next, none-next}
+use Rattle.book.proofs.book_refused.Statement.{statement}
+use Rattle.book.proofs.book_refused.Tie as tie
+
+settings-refused-requires : tie.Need-settings-refused-requires
+settings-refused-requires c κs = search needs
+
+returns : tie.Need-returns
+returns c = let a = c .before .before .args in still-refused (settingsChecks (a .n) (a .m) (a .t) (a .p)) tt _ (c .before .settings-refused .ensures) (c .if1 .taken)
+
+is-whole-requires : tie.Need-is-whole-requires
+is-whole-requires c κs = search needs
+
+returns-2 : tie.Need-returns-2
+returns-2 c =
+    let v = c .before .before .before in
+    let a = v .before .args in
+    refused-next (settingsChecks (a .n) (a .m) (a .t) (a .p)) tt 5 (v .settings-refused .ensures) (c .before .before .if1 .left) (ap not (sym (c .before .is-whole .ensures)) ∙ c .if2 .taken)
+
+returns-3 : tie.Need-returns-3
+returns-3 c =
+    let v = c .before .before .before in
+    let a = v .before .args in
+    none-next (settingsChecks (a .n) (a .m) (a .t) (a .p)) tt 5 (v .settings-refused .ensures) (c .before .before .if1 .left) (ap not (sym (c .before .is-whole .ensures)) ∙ c .if2 .left)
+
+pub book-refused-spec : {M : Type 1} → statement M
+book-refused-spec = tie.close (tie.spec settings-refused-requires returns is-whole-requires returns-2 returns-3)

@@ -1,0 +1,40 @@
+-- `book::refill` meets its contract: the verdict decides.
+use mathlib.Core.Path.{_≡_, refl, sym, ap, _∙_}
+use borrow.Author.Needs.{needs}
+use denote.Ref.{now}
+use Rattle.book.specs.Book.{refilled}
+use Rattle.book.specs.Asked.{bookOf}
+use Rattle.book.proofs.Outcomes.{outcome-refused, outcome-done, refill-asked}
+use Rattle.book.proofs.refill.Statement.{statement}
+use Rattle.book.proofs.refill.Tie as tie
+
+book-refused-requires : tie.Need-book-refused-requires
+book-refused-requires c κs = search needs
+
+same-length : tie.Need-same-length
+same-length c = search needs
+
+returns : tie.Need-returns
+returns c = outcome-refused (c .before .book-refused .ensures) (c .if1 .taken) _ _ _
+
+refill-all-requires : tie.Need-refill-all-requires
+refill-all-requires c κs =
+    let none = c .before in
+    let v = none .before in
+    let a = v .before .before .args in
+    refill-asked (a .n) (a .m) (a .t) (a .p) (now (a .words)) (now (a .votes)) (sym (v .book-refused .ensures) ∙ none .if1 .left)
+
+same-length-2 : tie.Need-same-length-2
+same-length-2 c = search needs
+
+returns-2 : tie.Need-returns-2
+unfolding refilled
+returns-2 c =
+    let call = c .before in
+    let none = call .before .before in
+    let v = none .before in
+    let a = v .before .before .args in
+    outcome-done (v .book-refused .ensures) (none .if1 .left) _ _ _ (ap (bookOf (now (a .words))) (call .refill-all .ensures))
+
+pub refill-spec : {M : Type 1} → statement M
+refill-spec = tie.close (tie.spec book-refused-requires same-length returns refill-all-requires same-length-2 returns-2)

@@ -1,0 +1,4 @@
+pub mod Book
+pub mod Run
+pub mod Remaking
+pub mod Asked
