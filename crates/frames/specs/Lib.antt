@@ -1,0 +1,5 @@
+pub mod Bytes
+pub mod Ages
+pub mod Frame
+pub mod Asked
+pub mod Entry

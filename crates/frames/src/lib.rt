@@ -1,0 +1,269 @@
+// Document 01, 'Frames': the exchange number and a frame's age, reading and writing a frame.
+pub mod bytes;
+
+use book::Done;
+use paths::Place;
+use paths::refusal;
+ghost use mathlib.Core.Path.{_≡_};
+ghost use mathlib.Core.Bool.{true};
+ghost use lib.ListN.{length};
+ghost use Rattle.paths.specs.Checks.{verdict};
+ghost use Rattle.frames.specs.Ages.{nextNumber, ageOf, classOf};
+ghost use Rattle.frames.specs.Frame.{frameOf, bytesOf, relayFormed, wellFormed};
+ghost use Rattle.book.specs.Asked.{bookOf, outcomeOf};
+ghost use Rattle.frames.specs.Entry.{frameSlot, timelyChecks, entryChecks, frameAsked};
+ghost use Rattle.frames.specs.Asked.{parsedOf, readChecks, readAsked, writeOutcome, writeAsked};
+
+const MARK: [u8; 3] = *b"OMH";
+
+const VERSION: u16 = 1;
+
+// A frame's fields as they lie in the frame.
+pub struct Frame {
+    pub exchange: u16,
+    pub sender: u8,
+    pub level: u8,
+    pub q1: u8,
+    pub q2: u8,
+    pub q3: u8,
+    pub receiver: u8,
+    pub word: i32,
+}
+
+impl Frame {
+    // A frame's bytes.
+    pub const SIZE: usize = 17;
+}
+
+pub enum Age {
+    Current,
+    Old,
+    Ahead,
+}
+
+pub enum Parsed {
+    Frame(Frame),
+    Refused(u8),
+}
+
+pub enum Written {
+    Done,
+    Refused(u8),
+}
+
+pub fn next_exchange(x: u16) -> u16
+    ensures { λ r. ⌜ r ≡ nextNumber x ⌝ }
+{
+    std::num::wrapping_add_u16(x, 1)
+}
+
+pub fn age_of(current: u16, frame: u16) -> u16
+    ensures { λ r. ⌜ r ≡ ageOf current frame ⌝ }
+{
+    std::num::wrapping_sub_u16(current, frame)
+}
+
+pub fn age_class(current: u16, frame: u16) -> Age
+    ensures { λ r. ⌜ r ≡ classOf (ageOf current frame) ⌝ }
+{
+    match age_of(current, frame) {
+        0 => Age::Current,
+        1..=32_767 => Age::Old,
+        _ => Age::Ahead,
+    }
+}
+
+// A relay at its place, from 1.
+fn relay_formed(level: u8, place: u8, q: u8) -> bool
+    ensures { λ r. ⌜ r ≡ relayFormed level place q ⌝ }
+{
+    if place <= level { q <= 9 } else { q == 255 }
+}
+
+// All is looked at: no branch.
+fn well_formed(f: Frame) -> bool
+    ensures { λ r. ⌜ r ≡ wellFormed f ⌝ }
+{
+    (f.sender <= 9)
+        & (f.receiver <= 9)
+        & (f.level <= 3)
+        & relay_formed(f.level, 1, f.q1)
+        & relay_formed(f.level, 2, f.q2)
+        & relay_formed(f.level, 3, f.q3)
+}
+
+// The fields of bytes, whether or not they are a frame.
+fn frame_of(s: &[u8]) -> Frame
+    ensures { λ r. ⌜ r ≡ frameOf (now (s .entry)) ⌝ }
+{
+    Frame {
+        exchange: bytes::get16(s, 5),
+        sender: bytes::byte_at(s, 7),
+        level: bytes::byte_at(s, 8),
+        q1: bytes::byte_at(s, 9),
+        q2: bytes::byte_at(s, 10),
+        q3: bytes::byte_at(s, 11),
+        receiver: bytes::byte_at(s, 12),
+        word: bytes::from_bits(bytes::get32(s, 13)),
+    }
+}
+
+// The refusal number of bytes that are read as a frame; 0 for none.
+fn refused(s: &[u8]) -> u8
+    ensures { λ r. ⌜ r ≡ verdict (readChecks (now (s .entry))) ⌝ }
+{
+    if s.len() != Frame::SIZE {
+        return refusal::SIZE;
+    }
+    if !bytes::starts_with(s, &MARK) {
+        return refusal::MARK;
+    }
+    if bytes::get16(s, 3) != VERSION {
+        return refusal::VERSION;
+    }
+    if !well_formed(frame_of(s)) {
+        return refusal::FORM;
+    }
+    0
+}
+
+// The record that a frame carries.
+pub fn read(bytes: &[u8]) -> Parsed
+    ensures { λ r. ⌜ r ≡ parsedOf (readAsked (now (bytes .entry))) ⌝ }
+{
+    let no = refused(bytes);
+    if no != 0 {
+        return Parsed::Refused(no);
+    }
+    Parsed::Frame(frame_of(bytes))
+}
+
+// The bytes that carry a record.
+fn bytes_of(f: Frame) -> [u8; Frame::SIZE]
+    ensures { λ r. ⌜ r ≡ bytesOf f ⌝ }
+{
+    let bits = bytes::to_bits(f.word);
+    let high = bits / 65_536;
+    let low = bits % 65_536;
+    [
+        MARK[0],
+        MARK[1],
+        MARK[2],
+        (VERSION / 256) as u8,
+        (VERSION % 256) as u8,
+        (f.exchange / 256) as u8,
+        (f.exchange % 256) as u8,
+        f.sender,
+        f.level,
+        f.q1,
+        f.q2,
+        f.q3,
+        f.receiver,
+        (high / 256) as u8,
+        (high % 256) as u8,
+        (low / 256) as u8,
+        (low % 256) as u8,
+    ]
+}
+
+// Puts a record's bytes in the buffer.
+fn put(frame: Frame, buffer: &mut [u8])
+    requires { ⌜ length (now buffer) ≡ 17 ⌝ }
+    ensures { λ r. ⌜ now (buffer .exit) ≡ bytesOf frame ⌝ }
+{
+    let made = bytes_of(frame);
+    for i in 0..Frame::SIZE {
+        buffer[i] = made[i];
+    }
+}
+
+pub fn write(frame: Frame, buffer: &mut [u8]) -> Written
+    ensures { λ r. ⌜ writeOutcome r (now (buffer .exit)) ≡ writeAsked frame (now (buffer .entry)) ⌝ }
+{
+    if buffer.len() != Frame::SIZE {
+        return Written::Refused(refusal::LONG);
+    }
+    if !well_formed(frame) {
+        return Written::Refused(refusal::FORM);
+    }
+    put(frame, buffer);
+    Written::Done
+}
+
+// The slot of a well formed frame's path, which is never refused.
+fn slot_of(f: Frame) -> usize
+    requires { ⌜ wellFormed f ≡ true ⌝ }
+    ensures { λ r. ⌜ r ≡ frameSlot f ⌝ }
+{
+    match paths::slot_of(
+        f.level as usize,
+        f.q1 as usize,
+        f.q2 as usize,
+        f.q3 as usize,
+    ) {
+        Place::Slot(slot) => slot,
+        Place::Refused(_) => 0,
+    }
+}
+
+// The refusal number of a frame that is old, ahead or another book's; 0 for none.
+fn untimely(t: usize, p: usize, current: u16, f: Frame) -> u8
+    ensures { λ r. ⌜ r ≡ verdict (timelyChecks t p current f) ⌝ }
+{
+    match age_class(current, f.exchange) {
+        Age::Old => refusal::OLD,
+        Age::Ahead => refusal::AHEAD,
+        Age::Current => {
+            if (f.sender as usize == t) & (f.receiver as usize == p) {
+                0
+            } else {
+                refusal::FOREIGN
+            }
+        }
+    }
+}
+
+// The refusal number of a frame for a book, but for its slot; 0 for none.
+fn entry_refused(
+    n: usize,
+    m: usize,
+    t: usize,
+    p: usize,
+    words: &[i32],
+    votes: &[i32],
+    current: u16,
+    bytes: &[u8],
+) -> u8
+    ensures { λ r. ⌜ r ≡ verdict (entryChecks n m t p (bookOf (now (words .entry)) (now (votes .entry))) current (now (bytes .entry))) ⌝ }
+{
+    let no = book::book_refused(n, m, t, p, words, votes);
+    if no != 0 {
+        return no;
+    }
+    let no = refused(bytes);
+    if no != 0 {
+        return no;
+    }
+    untimely(t, p, current, frame_of(bytes))
+}
+
+// Enters a frame in a book, where `current` is the exchange number.
+pub fn enter(
+    n: usize,
+    m: usize,
+    t: usize,
+    p: usize,
+    words: &mut [i32],
+    votes: &mut [i32],
+    current: u16,
+    bytes: &[u8],
+) -> Done
+    ensures { λ r. ⌜ outcomeOf r (now (words .exit)) (now (votes .exit)) ≡ frameAsked n m t p (bookOf (now (words .entry)) (now (votes .entry))) current (now (bytes .entry)) ⌝ }
+{
+    let no = entry_refused(n, m, t, p, words, votes, current, bytes);
+    if no != 0 {
+        return Done::Refused(no);
+    }
+    let f = frame_of(bytes);
+    book::enter(n, m, t, p, words, votes, slot_of(f), f.word)
+}
