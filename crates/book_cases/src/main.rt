@@ -5,11 +5,12 @@ use libc::STDOUT_FILENO;
 use paths::Settings;
 use vote::Voted;
 use words::E;
+ghost use mathlib.Core.Path.{_≡_};
 ghost use Prim.Native.Nat.{_≤_};
 ghost use lib.ListN.{length};
 
-// A slot, and the word that comes in at it.
-struct Entry(usize, i32);
+// What a call of `enter` is given: n, m, t, p, a slot and a word.
+struct Call(usize, usize, usize, usize, usize, i32);
 
 const SMALL: Settings = Settings {
     n: 4,
@@ -33,70 +34,72 @@ const OUTSIDE: Settings = Settings {
     p: 10,
 };
 
-// Live are 0, 3 and 4.
-const SMALL_ENTRIES: [Entry; 24] = [
-    Entry(0, 10),
-    Entry(3, 10),
-    Entry(4, 30),
-    Entry(3, 20),
-    Entry(1, 10),
-    Entry(2, 10),
-    Entry(5, 10),
-    Entry(11, 10),
-    Entry(1110, 10),
-    Entry(1111, 10),
-    Entry(4, 20),
-    Entry(3, 1_000_000_004),
-    Entry(0, -2_147_483_648),
-    Entry(3, 1_000_000_001),
-    Entry(4, 1_000_000_001),
-    Entry(0, 1_000_000_001),
-    Entry(0, E),
-    Entry(4, -120),
-    Entry(3, -120),
-    Entry(0, 999_999_999),
-    Entry(3, 999_999_999),
-    Entry(3, 1_000_000_002),
-    Entry(4, -1_000_000_000),
-    Entry(3, 999_999_999),
+// Slots 0, 3 and 4 are live.
+const SMALL_CALLS: [Call; 30] = [
+    Call(4, 1, 0, 1, 0, 10),
+    Call(4, 1, 0, 1, 3, 10),
+    Call(4, 1, 0, 1, 4, 30),
+    Call(4, 1, 0, 1, 3, 20),
+    Call(4, 1, 0, 1, 1, 10),
+    Call(4, 1, 0, 1, 2, 10),
+    Call(4, 1, 0, 1, 5, 10),
+    Call(4, 1, 0, 1, 11, 10),
+    Call(4, 1, 0, 1, 1110, 10),
+    Call(4, 1, 0, 1, 1111, 10),
+    Call(4, 1, 0, 1, 4, 20),
+    Call(4, 1, 0, 1, 3, 1_000_000_004),
+    Call(4, 1, 0, 1, 0, -2_147_483_648),
+    Call(4, 1, 0, 1, 3, 1_000_000_001),
+    Call(4, 1, 0, 1, 4, 1_000_000_001),
+    Call(4, 1, 0, 1, 0, 1_000_000_001),
+    Call(4, 1, 0, 1, 0, E),
+    Call(4, 1, 0, 1, 4, -120),
+    Call(4, 1, 0, 1, 3, -120),
+    Call(4, 1, 0, 1, 0, 999_999_999),
+    Call(4, 1, 0, 1, 3, 999_999_999),
+    Call(4, 1, 0, 1, 3, 1_000_000_002),
+    Call(4, 1, 0, 1, 4, -1_000_000_000),
+    Call(4, 1, 0, 1, 3, 999_999_999),
+    Call(0, 0, 0, 0, 3, 7),
+    Call(11, 4, 11, 11, 3, 7),
+    Call(4, 4, 4, 4, 3, 7),
+    Call(3, 3, 0, 1, 3, 7),
+    Call(4, 1, 4, 4, 3, 7),
+    Call(4, 1, 0, 4, 3, 7),
 ];
 
-// Paths are relays, the first first: slot 136 is 0, 2, 5 and slot 840 is 7, 2, 9.
-const LARGE_ENTRIES: [Entry; 24] = [
-    Entry(0, 500),
-    Entry(1, 500),
-    Entry(2, 300),
-    Entry(3, 300),
-    Entry(13, 700),
-    Entry(14, 500),
-    Entry(136, 500),
-    Entry(236, 1_000_000_003),
-    Entry(24, 1_000_000_002),
-    Entry(5, 1),
-    Entry(7, 1),
-    Entry(11, 1),
-    Entry(133, 1),
-    Entry(1110, 1),
-    Entry(840, 900),
-    Entry(83, 900),
-    Entry(8, 900),
-    Entry(840, -5),
-    Entry(839, -5),
-    Entry(0, 300),
-    Entry(1, 300),
-    Entry(840, 2_147_483_647),
-    Entry(10, -300),
-    Entry(9, 300),
-];
-
-// Settings n, m, t and p that are refused, with 1, 1, 2, 2, 3 and 4.
-const BAD: [[usize; 4]; 6] = [
-    [0, 0, 0, 0],
-    [11, 4, 11, 11],
-    [4, 4, 4, 4],
-    [3, 3, 0, 1],
-    [4, 1, 4, 4],
-    [4, 1, 0, 4],
+// Slots 136, 839 and 840 are the paths by relays 0, 2, 5, by 7, 2, 8 and by 7, 2, 9.
+const LARGE_CALLS: [Call; 30] = [
+    Call(10, 3, 4, 6, 0, 500),
+    Call(10, 3, 4, 6, 1, 500),
+    Call(10, 3, 4, 6, 2, 300),
+    Call(10, 3, 4, 6, 3, 300),
+    Call(10, 3, 4, 6, 13, 700),
+    Call(10, 3, 4, 6, 14, 500),
+    Call(10, 3, 4, 6, 136, 500),
+    Call(10, 3, 4, 6, 236, 1_000_000_003),
+    Call(10, 3, 4, 6, 24, 1_000_000_002),
+    Call(10, 3, 4, 6, 5, 1),
+    Call(10, 3, 4, 6, 7, 1),
+    Call(10, 3, 4, 6, 11, 1),
+    Call(10, 3, 4, 6, 133, 1),
+    Call(10, 3, 4, 6, 1110, 1),
+    Call(10, 3, 4, 6, 840, 900),
+    Call(10, 3, 4, 6, 83, 900),
+    Call(10, 3, 4, 6, 8, 900),
+    Call(10, 3, 4, 6, 840, -5),
+    Call(10, 3, 4, 6, 839, -5),
+    Call(10, 3, 4, 6, 0, 300),
+    Call(10, 3, 4, 6, 1, 300),
+    Call(10, 3, 4, 6, 840, 2_147_483_647),
+    Call(10, 3, 4, 6, 10, -300),
+    Call(10, 3, 4, 6, 9, 300),
+    Call(0, 3, 4, 6, 0, 7),
+    Call(11, 3, 4, 6, 0, 7),
+    Call(10, 4, 10, 10, 0, 7),
+    Call(3, 3, 4, 6, 0, 7),
+    Call(10, 3, 10, 10, 0, 7),
+    Call(10, 3, 4, 10, 0, 7),
 ];
 
 fn print(bytes: &[u8]) {
@@ -177,49 +180,37 @@ fn show_whole(name: &[u8; 8], s: Settings, came: Done) {
 // Opens a book whose lists hold other numbers.
 fn open(s: Settings, words: &mut [i32], votes: &mut [i32]) {
     print(
-        b"\ncall    n     m     t     p     words votes slot  word        came        held        afresh\n",
+        b"call    n     m     t     p     words votes slot  word        came        held        afresh\n",
     );
     let came = book::open(s.n, s.m, s.t, s.p, words, votes);
     show_whole(b"open    ", s, came);
     show_answers(s, words, votes);
 }
 
-// Enters a word; prints settings, the lists' lengths, slot and word, and what came.
-fn try_enter(s: Settings, words: &mut [i32], votes: &mut [i32], entry: Entry) {
-    let came = book::enter(s.n, s.m, s.t, s.p, words, votes, entry.0, entry.1);
+// A call of `enter` by what it is given, and what came.
+fn show_call(call: Call, words: usize, votes: usize, came: Done) {
     print(b"enter   ");
-    show_settings(s);
-    show_number(words.len());
-    show_number(votes.len());
-    show_number(entry.0);
-    show(entry.1);
+    show_number(call.0);
+    show_number(call.1);
+    show_number(call.2);
+    show_number(call.3);
+    show_number(words);
+    show_number(votes);
+    show_number(call.4);
+    show(call.5);
     show_done(came);
 }
 
-fn enter(s: Settings, words: &mut [i32], votes: &mut [i32], entry: Entry) {
-    try_enter(s, words, votes, entry);
+// Enters a word into the book of s.
+fn enter(s: Settings, words: &mut [i32], votes: &mut [i32], call: Call) {
+    let came = book::enter(call.0, call.1, call.2, call.3, words, votes, call.4, call.5);
+    show_call(call, words.len(), votes.len(), came);
     show_answers(s, words, votes);
 }
 
-fn enter_all(s: Settings, words: &mut [i32], votes: &mut [i32], entries: [Entry; 24]) {
-    for i in 0..24 {
-        enter(s, words, votes, entries[i]);
-    }
-}
-
-// Enters a word with settings that are refused.
-fn enter_refused(words: &mut [i32], votes: &mut [i32]) {
-    let bad = BAD;
-    for i in 0..6 {
-        let row = bad[i];
-        let s = Settings {
-            n: row[0],
-            m: row[1],
-            t: row[2],
-            p: row[3],
-        };
-        try_enter(s, words, votes, Entry(3, 7));
-        show_answers(SMALL, words, votes);
+fn enter_all(s: Settings, words: &mut [i32], votes: &mut [i32], calls: [Call; 30]) {
+    for i in 0..30 {
+        enter(s, words, votes, calls[i]);
     }
 }
 
@@ -227,9 +218,11 @@ fn enter_refused(words: &mut [i32], votes: &mut [i32]) {
 fn enter_short(words: &mut [i32], votes: &mut [i32], len: usize)
     requires { ⌜ (len ≤ length (now words)) × (len ≤ length (now votes)) ⌝ }
 {
-    try_enter(SMALL, &mut words[..len], votes, Entry(3, 7));
+    let came = book::enter(4, 1, 0, 1, &mut words[..len], votes, 3, 7);
+    show_call(Call(4, 1, 0, 1, 3, 7), len, votes.len(), came);
     show_answers(SMALL, words, votes);
-    try_enter(SMALL, words, &mut votes[..len], Entry(1, 7));
+    let came = book::enter(4, 1, 0, 1, words, &mut votes[..len], 1, 7);
+    show_call(Call(4, 1, 0, 1, 1, 7), words.len(), len, came);
     show_answers(SMALL, words, votes);
 }
 
@@ -251,22 +244,40 @@ fn refill(s: Settings, words: &[i32], votes: &mut [i32]) {
 // Votes that somebody else wrote are read at their level; refilling makes the live ones right again.
 fn show_refills(words: &mut [i32], votes: &mut [i32]) {
     spoil(words, votes);
-    enter(LARGE, words, votes, Entry(0, 300));
+    enter(LARGE, words, votes, Call(10, 3, 4, 6, 0, 300));
     spoil(words, votes);
     refill(OUTSIDE, words, votes);
     refill(LARGE, words, votes);
 }
 
+fn small_calls() -> [Call; 30] {
+    SMALL_CALLS
+}
+
+fn large_calls() -> [Call; 30] {
+    LARGE_CALLS
+}
+
+fn small(words: &mut [i32], votes: &mut [i32])
+    requires { ⌜ (length (now words) ≡ 1111) × (length (now votes) ≡ 1111) ⌝ }
+{
+    open(SMALL, words, votes);
+    enter_all(SMALL, words, votes, small_calls());
+    enter_short(words, votes, 1110);
+}
+
+fn large(words: &mut [i32], votes: &mut [i32]) {
+    open(LARGE, words, votes);
+    enter_all(LARGE, words, votes, large_calls());
+    show_refills(words, votes);
+}
+
 fn main() {
     let mut words = [7; 1111];
     let mut votes = [7; 1111];
-    open(SMALL, &mut words, &mut votes);
-    enter_all(SMALL, &mut words, &mut votes, SMALL_ENTRIES);
-    enter_refused(&mut words, &mut votes);
-    enter_short(&mut words, &mut votes, 1110);
-    open(LARGE, &mut words, &mut votes);
-    enter_all(LARGE, &mut words, &mut votes, LARGE_ENTRIES);
-    show_refills(&mut words, &mut votes);
+    small(&mut words, &mut votes);
+    print(b"\n");
+    large(&mut words, &mut votes);
     print(b"\nvote at slot 9, live      ");
     show(votes[9]);
     print(b"\nvote at slot 5, not live  ");

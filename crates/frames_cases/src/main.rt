@@ -10,7 +10,7 @@ use words::E;
 ghost use mathlib.Core.Path.{_≡_};
 ghost use lib.ListN.{length};
 
-// A sender, a level, three relays and a receiver: in turn well formed, level 4, relay 10, an unused relay not 255, a used relay 255, sender 10, receiver 10, all at its greatest.
+// A sender, a level, three relays and a receiver: in turn well formed, level 4, relay 10, an unused relay not 255, a used relay 255, sender 10, receiver 10, all at their greatest.
 const RECORDS: [[u8; 6]; 8] = [
     [0, 1, 2, 255, 255, 1],
     [0, 4, 2, 2, 2, 1],
@@ -22,7 +22,7 @@ const RECORDS: [[u8; 6]; 8] = [
     [9, 3, 9, 9, 9, 9],
 ];
 
-// The first record's frame, and one byte more.
+// The frame of `sample`, and one byte more.
 const LONG: [u8; 18] = *b"OMH\0\x01\0\x03\0\x01\x02\xff\xff\x01\xff\xff\xff\x88\0";
 
 // Current numbers, each with a frame's.
@@ -38,7 +38,7 @@ const AGES: [[u16; 2]; 9] = [
     [16_384, 49_152],
 ];
 
-// Frames for the book of card 1; what each is holds where 3 is the current number.
+// Frames that come in for the book of card 1; which are old or ahead is said for the current number 3.
 const ARRIVALS: [[u8; 17]; 14] = [
     // the sender's word
     *b"OMH\0\x01\0\x03\0\0\xff\xff\xff\x01\xff\xff\xff\x88",
@@ -144,6 +144,11 @@ fn record_of(exchange: u16, fields: [u8; 6], word: i32) -> Frame {
     }
 }
 
+// Exchange 3, sender 0, level 1, relay 2, receiver 1 and the word -120.
+fn sample() -> Frame {
+    record_of(3, [0, 1, 2, 255, 255, 1], -120)
+}
+
 // All but the word.
 fn show_fields(f: Frame) {
     show(f.exchange);
@@ -195,12 +200,11 @@ fn show_writes() {
 
 // Buffers that are too short and too long, the last for a record that is not well formed either.
 fn show_buffers() {
-    let records = RECORDS;
     let mut short = [0u8; 16];
     let mut long = [0u8; 18];
-    show_write(record_of(3, records[0], -120), &mut short);
-    show_write(record_of(3, records[0], -120), &mut long);
-    show_write(record_of(3, records[1], -120), &mut long);
+    show_write(sample(), &mut short);
+    show_write(sample(), &mut long);
+    show_write(record_of(3, [0, 4, 2, 2, 2, 1], -120), &mut long);
 }
 
 // The bytes of a record; zeros for one that is refused.
@@ -337,14 +341,21 @@ fn show_frame(bytes: [u8; 17]) {
     show_read(&bytes);
 }
 
-fn main() {
-    let records = RECORDS;
-    let bytes = bytes_of(record_of(3, records[0], -120));
+fn show_reading() {
+    let bytes = bytes_of(sample());
     show_frame(bytes);
     show_damages(bytes);
     show_lengths();
+}
+
+fn show_writing() {
     show_writes();
     show_buffers();
+}
+
+fn main() {
+    show_reading();
+    show_writing();
     show_ages();
     show_nexts();
     show_book();

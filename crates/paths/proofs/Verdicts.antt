@@ -7,7 +7,7 @@ use native.Mathlib.Omega.{arith}
 use lib.Dec.{T, eqb, ltb, leb, ltb→lt}
 use borrow.Author.Tests.{eqb-false, ltb-false, leb-false}
 use Rattle.paths.specs.Checks.{Check, check, verdict, Answer, value, refused, answer, after}
-use Rattle.paths.specs.Rack.{settingsChecks}
+use Rattle.paths.specs.Rack.{roundsChecks, settingsChecks}
 use Rattle.paths.proofs.Bools.{and-left, and-right}
 
 module _ {A : Type 0} where
@@ -96,6 +96,9 @@ module _ (cs : List Check) (n : T (numbered cs)) where
   unfolding next
   rest-decides ds e z = verdict-append cs ds n ∙ rw (← e, z)
 
+  pub rest-says : (ds : List Check) {no v : ℕ} → no ≡ verdict cs → no ≡ 0 → v ≡ verdict ds → v ≡ verdict (cs ++ ds)
+  rest-says ds e z f = f ∙ sym (rest-decides ds e z)
+
   -- one check more decides
   pub refused-next : (k : ℕ) {b : Bool} {no : ℕ} → no ≡ verdict cs → no ≡ 0 → b ≡ true → k ≡ verdict (cs ++ check k b ∷ [])
   unfolding next verdict
@@ -130,6 +133,12 @@ pub record Good (n m t p : ℕ) : Type 0 where
 neither : (a b : Bool) → (a || b) ≡ false → (a ≡ false) × (b ≡ false)
 neither true b e = let z : _≡_ {A = ℕ} 0 1 = cc in absurd (omega arith)
 neither false b e = (refl, e)
+
+-- cards and rounds that are not refused
+pub rounds-good : (n m : ℕ) → verdict (roundsChecks n m) ≡ 0 → (n ≤ 10) × (m ≤ 3)
+rounds-good n m e =
+    let cards = passed 0 _ _ e in
+    (ltb-false 10 n (neither (eqb n 0) (ltb 10 n) (cards .0) .1), ltb-false 3 m (neither (ltb 3 m) (leb n m) (passed 1 _ _ (cards .1) .0) .0))
 
 pub settings-good : (n m t p : ℕ) → verdict (settingsChecks n m t p) ≡ 0 → Good n m t p
 settings-good n m t p e =

@@ -7,10 +7,10 @@ use Rattle.book_cases.proofs.enter_all.Statement.{statement}
 use Rattle.book_cases.proofs.enter_all.Tie as tie
 
 abbrev Inv-loop : tie.InvT-loop
-Inv-loop s words₀ votes₀ entries i₀ words votes i = (i ≤ 24) × (length words ≡ length words₀) × (length votes ≡ length votes₀)
+Inv-loop s words₀ votes₀ calls i₀ words votes i = (i ≤ 30) × (length words ≡ length words₀) × (length votes ≡ length votes₀)
 
 abbrev μ-loop : tie.MeasureT-loop
-μ-loop s words₀ votes₀ entries i₀ words votes i = 24 - i
+μ-loop s words₀ votes₀ calls i₀ words votes i = 30 - i
 
 loop-holds : tie.Need-loop-holds Inv-loop μ-loop
 loop-holds c = search needs

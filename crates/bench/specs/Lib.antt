@@ -1,0 +1,4 @@
+pub mod Exchange
+pub mod Bound
+pub mod Asked
+pub mod Dealing

@@ -1,0 +1,88 @@
+-- Document 01, 'Worked by hand': the cases marked *, as one table of what a definition gives beside what it should be.
+use Prim.Native.Nat.{ℕ, suc, zero}
+use mathlib.Core.Bool.{Bool, true, cond, _&&_}
+use mathlib.Core.List.{List, [], _∷_, map, _++_}
+use lib.Dec.{eqb, ltb}
+use lib.IntN.{ℤ, pos, negℤ}
+use Rattle.words.specs.Word.{E, missing, readAt}
+use Rattle.words.specs.Majority.{same}
+use Rattle.words.specs.Rule.{omh, majorityBy}
+use Rattle.paths.specs.Slots.{slotOf, above}
+use Rattle.frames.specs.Ages.{ageOf, classOf}
+use Rattle.frames.specs.declared.Age.{Age}
+use Rattle.frames.specs.declared.Age.the-variants.{Current, Old, Ahead}
+use Rattle.bench.specs.Exchange.{Status, good, arbitrary, symmetric, manifest, Exchange, answerOf}
+
+pub record Case : Type 0 where
+  pub given : ℤ
+  pub right : ℤ
+
+abbrev pub case : ℤ → ℤ → Case
+case a b = record { given = a; right = b }
+
+abbrev pub number : ℕ → ℕ → Case
+number a b = case (pos a) (pos b)
+
+-- an age's class by its refusal number; 0 for current
+abbrev pub classNumber : Age → ℕ
+classNumber Current = 0
+classNumber Old = 12
+classNumber Ahead = 13
+
+-- what card 0, the sender, and card 4 send to cards 1, 2 and 3: the table's words at two slots, E elsewhere
+abbrev pub twoRows : ℕ → ℤ → ℤ → ℤ → ℕ → ℕ → ℤ
+twoRows slot a b c k p =
+    cond (eqb k slot) (cond (eqb p 1) a (cond (eqb p 2) b (cond (eqb p 3) c E))) E
+
+-- n cards, one round, sender 0
+abbrev pub oneRound : ℕ → (ℕ → Status) → (ℕ → ℕ → ℤ) → Exchange
+oneRound n status tabled =
+    record { fitted = λ q. ltb q n; rounds = 1; sender = 0; value = pos 0; status = status; tabled = tabled }
+
+-- n 5: sender 0 manifest, card 4 arbitrary telling 1, 2, 3 the words 11, 12, 13
+abbrev pub fiveStatuses : ℕ → Status
+fiveStatuses q = cond (eqb q 0) manifest (cond (eqb q 4) arbitrary good)
+
+abbrev pub fiveCards : Exchange
+fiveCards = oneRound 5 fiveStatuses (twoRows 5 (pos 11) (pos 12) (pos 13))
+
+-- n 4: sender 0 arbitrary, sending a, b, c
+abbrev pub fourStatuses : ℕ → Status
+fourStatuses q = cond (eqb q 0) arbitrary good
+
+abbrev pub fourCards : ℤ → ℤ → ℤ → Exchange
+fourCards a b c = oneRound 4 fourStatuses (twoRows 0 a b c)
+
+-- cards 1 to 3 all answer w
+abbrev pub threeAnswer : Exchange → ℤ → List Case
+threeAnswer X w = map (λ (p : ℕ). case (answerOf omh X p) w) (1 ∷ 2 ∷ 3 ∷ [])
+
+unfoldable pub worked : List Case
+worked =
+    case (readAt 0 (pos 999999999)) (pos 999999999)
+    ∷ case (readAt 0 (negℤ (pos 1000000000))) E
+    ∷ case (readAt 0 (pos 1000000001)) E
+    ∷ case (readAt 1 (pos 1000000001)) (pos 1000000001)
+    ∷ case (majorityBy omh (pos 5 ∷ pos 5 ∷ pos 7 ∷ [])) (pos 5)
+    ∷ case (majorityBy omh (pos 5 ∷ pos 7 ∷ [])) E
+    ∷ case (majorityBy omh (pos 5 ∷ E ∷ E ∷ [])) (pos 5)
+    ∷ case (majorityBy omh []) E
+    ∷ case (majorityBy omh (missing 1 ∷ missing 1 ∷ pos 4 ∷ E ∷ [])) (missing 1)
+    ∷ number (slotOf (9 ∷ 2 ∷ 7 ∷ [])) 840
+    ∷ number (above 840) 83
+    ∷ number (above 83) 8
+    ∷ number (above 8) 0
+    ∷ number (ageOf 3 65534) 5
+    ∷ number (classNumber (classOf 5)) 12
+    ∷ number (ageOf 65535 0) 65535
+    ∷ number (classNumber (classOf 65535)) 13
+    ∷ number (classNumber (classOf 32767)) 12
+    ∷ number (classNumber (classOf 32768)) 13
+    ∷ threeAnswer fiveCards E
+    ++ threeAnswer (fourCards (pos 10) (pos 20) (pos 30)) E
+    ++ threeAnswer (fourCards (pos 10) (pos 10) (pos 30)) (pos 10)
+
+-- every row is right
+unfoldable pub allRight : List Case → Bool
+allRight [] = true
+allRight (c ∷ cs) = same (c .given) (c .right) && allRight cs
