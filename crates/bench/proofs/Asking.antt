@@ -21,12 +21,11 @@ use Rattle.vote.specs.Asked.{votedOf, answerAsked as voteAnswer}
 use Rattle.vote.specs.declared.Voted.{Voted}
 use Rattle.vote.specs.declared.Voted.the-variants as voted
 use Rattle.book.specs.declared.Done.the-variants as done
-use Rattle.bench.specs.Bound.{count}
 use Rattle.bench.specs.Dealing.{Deals}
 use Rattle.bench.specs.Asked.{toldOf, boundedOf, inputsLong, valueChecks, answersChecks, answersWith, doneBy, boundChecks, boundAsked}
 use Rattle.bench.specs.declared.Told.the-variants as told
 use Rattle.bench.proofs.Statuses.{at-most-3}
-use Rattle.bench.proofs.Counting.{bounded-by}
+use Rattle.bench.proofs.Counting.{having, bounded-by}
 
 -- ---- the bound
 
@@ -50,7 +49,7 @@ module _ (n m : ℕ) (statuses : List ℕ) {no : ℕ} (e : no ≡ verdict (bound
         small = at-most-3 n statuses (passed 6 _ _ (long .1) .0);
       }
 
-  pub bound-told : (b : Bool) {a s c : ℕ} → a ≡ count (λ q. eqb (getD statuses q 0) 1) n 0 → s ≡ count (λ q. eqb (getD statuses q 0) 2) n 0 → c ≡ count (λ q. eqb (getD statuses q 0) 3) n 0 → (ltb (2 * a + 2 * s + c + m) n && leb a m) ≡ b → boundedOf (value b) ≡ boundedOf (boundAsked n m statuses)
+  pub bound-told : (b : Bool) {a s c : ℕ} → a ≡ having statuses 1 n → s ≡ having statuses 2 n → c ≡ having statuses 3 n → (ltb (2 * a + 2 * s + c + m) n && leb a m) ≡ b → boundedOf (value b) ≡ boundedOf (boundAsked n m statuses)
   unfolding boundAsked
   bound-told b ea es ec f =
       let held = bounded-by n (bounds-asked .few) m 0 _ statuses [] (bounds-asked .small) ea es ec ∙ f in

@@ -13,6 +13,10 @@ use Rattle.bench.specs.Exchange.{exchange}
 use Rattle.bench.specs.Bound.{count, enough, bounded}
 use Rattle.bench.proofs.Statuses.{arbitrary-is, symmetric-is, manifest-is}
 
+-- how many of the first n cards have this status byte
+abbrev pub having : List ℕ → ℕ → ℕ → ℕ
+having statuses s n = count (λ q. eqb (getD statuses q 0) s) n 0
+
 -- ---- one card after another
 
 module _ (f : ℕ → Bool) where
@@ -81,7 +85,7 @@ module _ (n : ℕ) (few : n ≤ 10) where
       (λ q a. let l : ltb q n ≡ false = le-ltb q n (omega arith) in rw l)
 
   -- the bound by the three counts
-  pub bounded-by : (m t : ℕ) (x : ℤ) (statuses : List ℕ) (words : List ℤ) {a s c : ℕ} → ((q : ℕ) → q < 10 → getD statuses q 0 ≤ 3) → a ≡ count (λ q. eqb (getD statuses q 0) 1) n 0 → s ≡ count (λ q. eqb (getD statuses q 0) 2) n 0 → c ≡ count (λ q. eqb (getD statuses q 0) 3) n 0 → bounded (exchange n m t x statuses words) ≡ (ltb (2 * a + 2 * s + c + m) n && leb a m)
+  pub bounded-by : (m t : ℕ) (x : ℤ) (statuses : List ℕ) (words : List ℤ) {a s c : ℕ} → ((q : ℕ) → q < 10 → getD statuses q 0 ≤ 3) → a ≡ having statuses 1 n → s ≡ having statuses 2 n → c ≡ having statuses 3 n → bounded (exchange n m t x statuses words) ≡ (ltb (2 * a + 2 * s + c + m) n && leb a m)
   unfolding bounded enough
   bounded-by m t x statuses words fine ea es ec =
       rw (

@@ -1,6 +1,6 @@
 -- Document 01, 'The exchange on the bench', as it is asked of the functions.
 use Prim.Native.Nat.{ℕ}
-use mathlib.Core.Bool.{Bool, true, false, cond, not, _&&_, _||_}
+use mathlib.Core.Bool.{Bool, true, false, not, _&&_, _||_}
 use mathlib.Core.List.{List, [], _∷_, _++_}
 use lib.Dec.{eqb, ltb}
 use lib.IntN.{ℤ}
@@ -12,13 +12,13 @@ use Rattle.words.specs.declared.Kind.the-variants.{Ordinary, Missing, Bad}
 use Rattle.paths.specs.Refusal as refusal
 use Rattle.paths.specs.Checks.{Check, check, verdict, Answer, value, refused, answer, after}
 use Rattle.paths.specs.Rack.{rack, roundsChecks, senderChecks, settingsChecks}
-use Rattle.paths.specs.Slots.{slots, live, table}
+use Rattle.paths.specs.Slots.{live, table}
 use Rattle.vote.specs.Vote.{at}
 use Rattle.book.specs.Book.{Book}
 use Rattle.book.specs.Asked.{Outcome, outcome, sized}
 use Rattle.book.specs.declared.Done.{Done}
 use Rattle.book.specs.declared.Done.the-variants as done
-use Rattle.bench.specs.Exchange.{Exchange, exchange, dealt, answerOf, answersOf, filledFor}
+use Rattle.bench.specs.Exchange.{exchange, dealt, answerOf, answersOf, filledFor}
 use Rattle.bench.specs.Bound.{bounded}
 use Rattle.bench.specs.declared.Told.{Told}
 use Rattle.bench.specs.declared.Told.the-variants as told

@@ -8,9 +8,7 @@ use Rattle.words.specs.Word.{E, missing, readAt}
 use Rattle.words.specs.Majority.{same}
 use Rattle.words.specs.Rule.{omh, majorityBy}
 use Rattle.paths.specs.Slots.{slotOf, above}
-use Rattle.frames.specs.Ages.{ageOf, classOf}
-use Rattle.frames.specs.declared.Age.{Age}
-use Rattle.frames.specs.declared.Age.the-variants.{Current, Old, Ahead}
+use Rattle.frames.specs.Ages.{ageOf, classOf, classNumber}
 use Rattle.bench.specs.Exchange.{Status, good, arbitrary, symmetric, manifest, Exchange, answerOf}
 
 pub record Case : Type 0 where
@@ -22,12 +20,6 @@ case a b = record { given = a; right = b }
 
 abbrev pub number : ℕ → ℕ → Case
 number a b = case (pos a) (pos b)
-
--- an age's class by its refusal number; 0 for current
-abbrev pub classNumber : Age → ℕ
-classNumber Current = 0
-classNumber Old = 12
-classNumber Ahead = 13
 
 -- what card 0, the sender, and card 4 send to cards 1, 2 and 3: the table's words at two slots, E elsewhere
 abbrev pub twoRows : ℕ → ℤ → ℤ → ℤ → ℕ → ℕ → ℤ

@@ -2,6 +2,7 @@
 use Prim.Native.Nat.{ℕ, _+_, _-_, _%_}
 use mathlib.Core.Bool.{cond}
 use lib.Dec.{eqb, leb}
+use Rattle.paths.specs.Refusal as refusal
 use Rattle.frames.specs.declared.Age.{Age}
 use Rattle.frames.specs.declared.Age.the-variants.{Current, Old, Ahead}
 
@@ -16,3 +17,9 @@ ageOf current frame = (current + 65536 - frame) % 65536
 -- age 0 is current, 1 to 32,767 old, 32,768 to 65,535 ahead
 unfoldable pub classOf : ℕ → Age
 classOf age = cond (eqb age 0) Current (cond (leb age 32767) Old Ahead)
+
+-- the refusal number of a class; 0 for current
+abbrev pub classNumber : Age → ℕ
+classNumber Current = 0
+classNumber Old = refusal.old
+classNumber Ahead = refusal.ahead

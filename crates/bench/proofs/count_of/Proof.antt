@@ -7,13 +7,12 @@ use native.Mathlib.Omega.{arith}
 use lib.Dec.{eqb}
 use lib.ListN.{getD}
 use borrow.Author.Tests.{eq-eqb, ne-eqb}
-use Rattle.bench.specs.Bound.{count}
-use Rattle.bench.proofs.Counting.{count-none, count-yes, count-no}
+use Rattle.bench.proofs.Counting.{having, count-none, count-yes, count-no}
 use Rattle.bench.proofs.count_of.Statement.{statement}
 use Rattle.bench.proofs.count_of.Tie as tie
 
 abbrev Inv-loop : tie.InvT-loop
-Inv-loop n statuses status found₀ q₀ found q = (q ≤ n) × (found ≤ q) × (found ≡ count (λ q. eqb (getD statuses q 0) status) q 0)
+Inv-loop n statuses status found₀ q₀ found q = (q ≤ n) × (found ≤ q) × (found ≡ having statuses status q)
 
 abbrev μ-loop : tie.MeasureT-loop
 μ-loop n statuses status found₀ q₀ found q = n - q
@@ -49,7 +48,7 @@ returns c =
     let loop = c .before .loop in
     let a = c .before .before .args in
     let e : loop .q ≡ a .n = omega arith in
-    loop .inv .2 ∙ ap (λ (k : ℕ). count (λ q. eqb (getD (a .statuses .now) q 0) (a .status)) k 0) e
+    loop .inv .2 ∙ ap (having (a .statuses .now) (a .status)) e
 
 pub count-of-spec : {M : Type 1} → statement M
 count-of-spec =

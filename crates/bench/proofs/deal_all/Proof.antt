@@ -41,6 +41,10 @@ loop-holds c =
     let X = exchange (a .n) (a .m) (a .t) (back (a .x)) (now (a .statuses)) (now (a .table)) in
     (omega arith, call .deal-slot .ensures .long ∙ start .pre .3, below-first omh X (a .n) (λ p f. ltb→lt p (a .n) f) refl (call .deal-slot .ensures))
 
+-- the function's entry, from the loop's head
+abbrev entry : tie.At-loop Inv-loop μ-loop → tie.Start Inv-loop μ-loop
+entry c = c .before .before .before .before .before .before
+
 level-of-requires : tie.Need-level-of-requires Inv-loop μ-loop
 level-of-requires c κs = search needs
 
@@ -48,8 +52,7 @@ level-of-requires c κs = search needs
 inside : (c : tie.Then1 Inv-loop μ-loop) → c .before .before .loop .k < 1111
 inside c =
     let call = c .before in
-    let start = call .before .before .before .before .before .before .before in
-    level-slot _ (omega (arith, call .level-of .ensures, c .if1 .taken, start .pre .2))
+    level-slot _ (omega (arith, call .level-of .ensures, c .if1 .taken, entry (call .before) .pre .2))
 
 sub-q : tie.Need-sub-q Inv-loop μ-loop
 sub-q c = omega arith
@@ -76,13 +79,13 @@ relayed-requires : tie.Need-relayed-requires Inv-loop μ-loop
 relayed-requires c κs = search needs
 
 read-deal-slot-2 : tie.Need-shared-slice-read-deal-slot-2 Inv-loop μ-loop
-read-deal-slot-2 c = let loop = c .before .before .before .before .before .before in omega (arith, loop .before .before .before .before .before .before .pre .0 .statuses-long)
+read-deal-slot-2 c = omega (arith, entry (c .before .before .before .before .before .before) .pre .0 .statuses-long)
 
 deal-slot-requires-2 : tie.Need-deal-slot-requires-2 Inv-loop μ-loop
 deal-slot-requires-2 c κs =
     let test = c .before .before .before .before .before in
     let loop = test .before .before in
-    let given = loop .before .before .before .before .before .before .pre in
+    let given = entry loop .pre in
     (given .1, given .0 .table-long, inside test, loop .loop .inv .1)
 
 add-k : tie.Need-add-k Inv-loop μ-loop
@@ -99,7 +102,7 @@ loop-again c =
     let above = read .before in
     let test = above .before in
     let loop = test .before .before in
-    let a = loop .before .before .before .before .before .before .args in
+    let a = entry loop .args in
     let inv = loop .loop .inv in
     let X = exchange (a .n) (a .m) (a .t) (back (a .x)) (now (a .statuses)) (now (a .table)) in (
       omega arith,
@@ -111,13 +114,13 @@ loop-again c =
     )
 
 same-length : tie.Need-same-length Inv-loop μ-loop
-same-length c = let loop = c .before .before in loop .loop .inv .1 ∙ sym (loop .before .before .before .before .before .before .pre .3)
+same-length c = let loop = c .before .before in loop .loop .inv .1 ∙ sym (entry loop .pre .3)
 
 returns : tie.Need-returns Inv-loop μ-loop
 returns c =
     let call = c .before in
     let loop = call .before in
-    let start = loop .before .before .before .before .before .before in
+    let start = entry loop in
     let a = start .args in
     let over : a .m < level (loop .loop .k) = omega (arith, call .level-of .ensures, c .if1 .left) in
     subst (λ (x : ℤ). DealtBelow omh (exchange (a .n) (a .m) (a .t) x (now (a .statuses)) (now (a .table))) slots (loop .loop .words)) (back-is (start .fits .x))

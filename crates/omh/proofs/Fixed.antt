@@ -1,0 +1,75 @@
+-- Each exported function's contract fixes its answer, and what is lent to it afterwards: two outcomes that it allows are equal.
+use Prim.Native.Nat.{ℕ}
+use mathlib.Core.Path.{sym, ap, _∙_}
+use mathlib.Core.List.{List}
+use lib.IntN.{ℤ}
+use denote.Ref.{now}
+use Rattle.words.specs.Fixes.{Fixes}
+use Rattle.book.specs.Asked.{Outcome, outcomeOf}
+use Rattle.omh.specs.Numbers.{Given, given}
+use Rattle.omh.proofs.omh_read_at.Kinds as omh-read-at
+use Rattle.omh.proofs.omh_read_at.Reads as omh-read-at-says
+use Rattle.omh.proofs.omh_wrap.Kinds as omh-wrap
+use Rattle.omh.proofs.omh_wrap.Reads as omh-wrap-says
+use Rattle.omh.proofs.omh_unwrap.Kinds as omh-unwrap
+use Rattle.omh.proofs.omh_unwrap.Reads as omh-unwrap-says
+use Rattle.omh.proofs.omh_majority.Kinds as omh-majority
+use Rattle.omh.proofs.omh_majority.Reads as omh-majority-says
+use Rattle.omh.proofs.omh_vote_at.Kinds as omh-vote-at
+use Rattle.omh.proofs.omh_vote_at.Reads as omh-vote-at-says
+use Rattle.omh.proofs.omh_open.Kinds as omh-open
+use Rattle.omh.proofs.omh_open.Reads as omh-open-says
+use Rattle.omh.proofs.omh_enter.Kinds as omh-enter
+use Rattle.omh.proofs.omh_enter.Reads as omh-enter-says
+use Rattle.omh.proofs.omh_refill.Kinds as omh-refill
+use Rattle.omh.proofs.omh_refill.Reads as omh-refill-says
+use Rattle.omh.proofs.omh_held_answer.Kinds as omh-held-answer
+use Rattle.omh.proofs.omh_held_answer.Reads as omh-held-answer-says
+use Rattle.omh.proofs.omh_next_exchange.Kinds as omh-next-exchange
+use Rattle.omh.proofs.omh_next_exchange.Reads as omh-next-exchange-says
+use Rattle.omh.proofs.omh_age.Kinds as omh-age
+use Rattle.omh.proofs.omh_age.Reads as omh-age-says
+use Rattle.omh.proofs.omh_age_class.Kinds as omh-age-class
+use Rattle.omh.proofs.omh_age_class.Reads as omh-age-class-says
+use Rattle.omh.proofs.omh_enter_frame.Kinds as omh-enter-frame
+use Rattle.omh.proofs.omh_enter_frame.Reads as omh-enter-frame-says
+
+pub omh-read-at-fixed : Fixes 0 omh-read-at.ps omh-read-at.r omh-read-at-says.Post ℤ (λ κs x s. x)
+omh-read-at-fixed κs a x y s t p q = p ∙ sym q
+
+pub omh-wrap-fixed : Fixes 0 omh-wrap.ps omh-wrap.r omh-wrap-says.Post ℤ (λ κs x s. x)
+omh-wrap-fixed κs a x y s t p q = p ∙ sym q
+
+pub omh-unwrap-fixed : Fixes 0 omh-unwrap.ps omh-unwrap.r omh-unwrap-says.Post ℤ (λ κs x s. x)
+omh-unwrap-fixed κs a x y s t p q = p ∙ sym q
+
+pub omh-majority-fixed : Fixes 1 omh-majority.ps omh-majority.r omh-majority-says.Post ℤ (λ κs x s. x)
+omh-majority-fixed κs a x y s t p q = p ∙ sym q
+
+pub omh-vote-at-fixed : Fixes 2 omh-vote-at.ps omh-vote-at.r omh-vote-at-says.Post Given (λ κs x s. given x (now (s .1 .1 .1 .1 .1 .1 .0)))
+omh-vote-at-fixed κs a x y s t p q = p ∙ sym q
+
+pub omh-open-fixed : Fixes 2 omh-open.ps omh-open.r omh-open-says.Post (Outcome ℕ) (λ κs x s. outcomeOf x (now (s .1 .1 .1 .1 .0)) (now (s .1 .1 .1 .1 .1 .0)))
+omh-open-fixed κs a x y s t p q = p ∙ sym q
+
+pub omh-enter-fixed : Fixes 2 omh-enter.ps omh-enter.r omh-enter-says.Post (Outcome ℕ) (λ κs x s. outcomeOf x (now (s .1 .1 .1 .1 .0)) (now (s .1 .1 .1 .1 .1 .0)))
+omh-enter-fixed κs a x y s t p q = p ∙ sym q
+
+-- the words are lent to be read only
+pub omh-refill-fixed : Fixes 2 omh-refill.ps omh-refill.r omh-refill-says.Post (ℕ × List ℤ) (λ κs x s. (x, now (s .1 .1 .1 .1 .1 .0)))
+omh-refill-fixed κs a x y s t p q = ap (λ (o : Outcome ℕ). (o .yields, o .leaves .votes)) (p ∙ sym q)
+
+pub omh-held-answer-fixed : Fixes 3 omh-held-answer.ps omh-held-answer.r omh-held-answer-says.Post Given (λ κs x s. given x (now (s .1 .1 .0)))
+omh-held-answer-fixed κs a x y s t p q = p ∙ sym q
+
+pub omh-next-exchange-fixed : Fixes 0 omh-next-exchange.ps omh-next-exchange.r omh-next-exchange-says.Post ℕ (λ κs x s. x)
+omh-next-exchange-fixed κs a x y s t p q = p ∙ sym q
+
+pub omh-age-fixed : Fixes 0 omh-age.ps omh-age.r omh-age-says.Post ℕ (λ κs x s. x)
+omh-age-fixed κs a x y s t p q = p ∙ sym q
+
+pub omh-age-class-fixed : Fixes 0 omh-age-class.ps omh-age-class.r omh-age-class-says.Post ℕ (λ κs x s. x)
+omh-age-class-fixed κs a x y s t p q = p ∙ sym q
+
+pub omh-enter-frame-fixed : Fixes 3 omh-enter-frame.ps omh-enter-frame.r omh-enter-frame-says.Post (Outcome ℕ) (λ κs x s. outcomeOf x (now (s .1 .1 .1 .1 .0)) (now (s .1 .1 .1 .1 .1 .0)))
+omh-enter-frame-fixed κs a x y s t p q = p ∙ sym q

@@ -1,0 +1,34 @@
+-- `omh::omh_vote_at` meets its contract: the vote in the place, or the refusal.
+use mathlib.Core.Path.{_≡_, sym, ap, _∙_}
+use denote.Ref.{now}
+use borrow.Author.Needs.{needs, sfits-of}
+use Rattle.words.proofs.Bits.{back-is}
+use Rattle.vote.specs.Asked.{voteAsked}
+use Rattle.vote.specs.declared.Voted.{Voted}
+use Rattle.omh.specs.Numbers.{given, placed}
+use Rattle.omh.proofs.Placed.{ofVoted, voted-placed}
+use Rattle.omh.proofs.omh_vote_at.Statement.{statement}
+use Rattle.omh.proofs.omh_vote_at.Tie as tie
+
+vote-at-requires : tie.Need-vote-at-requires
+vote-at-requires c κs = search needs
+
+enum-known-w : tie.Need-enum-known-w
+enum-known-w c = search needs
+
+enum-known-k : tie.Need-enum-known-k
+enum-known-k c = search needs
+
+-- what the place holds, by what the call gave
+told : (c : tie.After-vote-at) {d : Voted} → c .vote-at .result ≡ d → let a = c .before .args in placed (ofVoted d) (now (a .vote)) ≡ placed (voteAsked (a .n) (a .m) (a .t) (a .p) (now (a .words)) (a .slot)) (now (a .vote))
+told c e = let a = c .before .args in voted-placed (voteAsked (a .n) (a .m) (a .t) (a .p) (now (a .words)) (a .slot)) _ (sym e ∙ c .vote-at .ensures)
+
+returns : tie.Need-returns
+returns c = ap (given 0) (back-is (sfits-of (c .known-told .given .0 .1))) ∙ told (c .before .before .before) (c .before .w .given .1)
+
+returns-2 : tie.Need-returns-2
+returns-2 c = told (c .before .before .before) (c .before .k .given .1)
+
+pub omh-vote-at-spec : {M : Type 1} → statement M
+omh-vote-at-spec =
+    tie.close (tie.spec vote-at-requires enum-known-w enum-known-k returns returns-2)
