@@ -105,7 +105,7 @@ fn show_done(done: Done) {
     }
 }
 
-// An exchange: its settings, what came of all answers, a line for each card, and the bound.
+// An exchange: its settings, what came of all answers, a line for each card, the list's last place (7 where it is untouched), and the bound.
 fn show_exchange(n: usize, m: usize, t: usize, x: i32, statuses: &[u8; 10], table: &[i32; 11110]) {
     print(b"n ");
     show_number(n);
