@@ -1,4 +1,5 @@
 -- Each public function's contract fixes its answer and the lists that it is lent: two outcomes that it allows are equal.
+use Prim.Native.Nat.{ℕ}
 use mathlib.Core.Path.{sym, _∙_}
 use denote.Ref.{now}
 use Rattle.words.specs.Fixes.{Fixes}
@@ -11,6 +12,8 @@ use Rattle.bench.proofs.word_for.Kinds as word-for
 use Rattle.bench.proofs.word_for.Reads as word-for-says
 use Rattle.bench.proofs.answer_for.Kinds as answer-for
 use Rattle.bench.proofs.answer_for.Reads as answer-for-says
+use Rattle.bench.proofs.exchange_refused.Kinds as exchange-refused
+use Rattle.bench.proofs.exchange_refused.Reads as exchange-refused-says
 use Rattle.bench.proofs.all_answers.Kinds as all-answers
 use Rattle.bench.proofs.all_answers.Reads as all-answers-says
 use Rattle.bench.proofs.fill.Kinds as fill
@@ -23,6 +26,9 @@ word-for-fixed κs a x y s t p q = p ∙ sym q
 
 pub answer-for-fixed : Fixes 2 answer-for.ps answer-for.r answer-for-says.Post Told (λ κs x s. x)
 answer-for-fixed κs a x y s t p q = p ∙ sym q
+
+pub exchange-refused-fixed : Fixes 1 exchange-refused.ps exchange-refused.r exchange-refused-says.Post ℕ (λ κs x s. x)
+exchange-refused-fixed κs a x y s t p q = p ∙ sym q
 
 pub all-answers-fixed : Fixes 3 all-answers.ps all-answers.r all-answers-says.Post Answers (λ κs x s. answersWith x (now (s .1 .1 .1 .1 .1 .1 .0)))
 all-answers-fixed κs a x y s t p q = p ∙ sym q

@@ -20,12 +20,12 @@ or-true true = refl
 or-true false = refl
 
 module _ (f : ℕ → Bool) where
-  none-of : (c s : ℕ) → ((q : ℕ) → q < s + c → f q ≡ false) → someOf (table c s f) ≡ false
+  pub none-of : (c s : ℕ) → ((q : ℕ) → q < s + c → f q ≡ false) → someOf (table c s f) ≡ false
   unfolding someOf table
   none-of zero s h = refl
   none-of (suc c) s h = rw (h s (omega arith)) (none-of c (suc s) (λ q a. h q (omega arith)))
 
-  one-of : (c s q : ℕ) → s ≤ q → q < s + c → f q ≡ true → someOf (table c s f) ≡ true
+  pub one-of : (c s q : ℕ) → s ≤ q → q < s + c → f q ≡ true → someOf (table c s f) ≡ true
   unfolding someOf table
   one-of zero s q a b e = absurd (omega arith)
   one-of (suc c) s q a b e = go (ℕ-discrete q s) (λ g. one-of c (suc s) q g (omega arith) e)

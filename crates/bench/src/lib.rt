@@ -239,6 +239,17 @@ pub fn answer_for(
     Told::Word(answered(s, &words))
 }
 
+// The refusal number of an exchange's settings, statuses and value; 0 for none.
+pub fn exchange_refused(n: usize, m: usize, t: usize, x: i32, statuses: &[u8]) -> u8
+    ensures { λ r. ⌜ r ≡ verdict (senderChecks n m t ++ valueChecks n x (now (statuses .entry)) (eqb (length (now (statuses .entry))) 10)) ⌝ }
+{
+    let no = paths::sender_refused(n, m, t);
+    if no != 0 {
+        return no;
+    }
+    values_refused(n, x, statuses, statuses.len() == Settings::MAX_CARDS)
+}
+
 // Whether the inputs and the list of answers have their right length.
 fn answers_long(statuses: &[u8], table: &[i32], answers: &[i32]) -> bool
     ensures { λ r. ⌜ r ≡ (inputsLong (now (statuses .entry)) (now (table .entry)) && eqb (length (now (answers .entry))) 10) ⌝ }

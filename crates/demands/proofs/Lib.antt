@@ -1,2 +1,3 @@
 pub mod Table
+pub mod Order
 pub mod Demand1

@@ -31,8 +31,24 @@ use Rattle.omh.proofs.omh_age.Kinds as omh-age
 use Rattle.omh.proofs.omh_age.Reads as omh-age-says
 use Rattle.omh.proofs.omh_age_class.Kinds as omh-age-class
 use Rattle.omh.proofs.omh_age_class.Reads as omh-age-class-says
+use Rattle.omh.proofs.omh_read_frame.Kinds as omh-read-frame
+use Rattle.omh.proofs.omh_read_frame.Reads as omh-read-frame-says
+use Rattle.omh.proofs.omh_write_frame.Kinds as omh-write-frame
+use Rattle.omh.proofs.omh_write_frame.Reads as omh-write-frame-says
 use Rattle.omh.proofs.omh_enter_frame.Kinds as omh-enter-frame
 use Rattle.omh.proofs.omh_enter_frame.Reads as omh-enter-frame-says
+use Rattle.omh.proofs.omh_word_for.Kinds as omh-word-for
+use Rattle.omh.proofs.omh_word_for.Reads as omh-word-for-says
+use Rattle.omh.proofs.omh_answer_for.Kinds as omh-answer-for
+use Rattle.omh.proofs.omh_answer_for.Reads as omh-answer-for-says
+use Rattle.omh.proofs.omh_all_answers.Kinds as omh-all-answers
+use Rattle.omh.proofs.omh_all_answers.Reads as omh-all-answers-says
+use Rattle.omh.proofs.omh_fill.Kinds as omh-fill
+use Rattle.omh.proofs.omh_fill.Reads as omh-fill-says
+use Rattle.omh.proofs.omh_bound.Kinds as omh-bound
+use Rattle.omh.proofs.omh_bound.Reads as omh-bound-says
+use Rattle.omh.proofs.omh_list.Kinds as omh-list
+use Rattle.omh.proofs.omh_list.Reads as omh-list-says
 
 pub omh-read-at-fixed : Fixes 0 omh-read-at.ps omh-read-at.r omh-read-at-says.Post ℤ (λ κs x s. x)
 omh-read-at-fixed κs a x y s t p q = p ∙ sym q
@@ -46,7 +62,7 @@ omh-unwrap-fixed κs a x y s t p q = p ∙ sym q
 pub omh-majority-fixed : Fixes 1 omh-majority.ps omh-majority.r omh-majority-says.Post ℤ (λ κs x s. x)
 omh-majority-fixed κs a x y s t p q = p ∙ sym q
 
-pub omh-vote-at-fixed : Fixes 2 omh-vote-at.ps omh-vote-at.r omh-vote-at-says.Post Given (λ κs x s. given x (now (s .1 .1 .1 .1 .1 .1 .0)))
+pub omh-vote-at-fixed : Fixes 2 omh-vote-at.ps omh-vote-at.r omh-vote-at-says.Post (Given ℤ) (λ κs x s. given x (now (s .1 .1 .1 .1 .1 .1 .0)))
 omh-vote-at-fixed κs a x y s t p q = p ∙ sym q
 
 pub omh-open-fixed : Fixes 2 omh-open.ps omh-open.r omh-open-says.Post (Outcome ℕ) (λ κs x s. outcomeOf x (now (s .1 .1 .1 .1 .0)) (now (s .1 .1 .1 .1 .1 .0)))
@@ -59,7 +75,7 @@ omh-enter-fixed κs a x y s t p q = p ∙ sym q
 pub omh-refill-fixed : Fixes 2 omh-refill.ps omh-refill.r omh-refill-says.Post (ℕ × List ℤ) (λ κs x s. (x, now (s .1 .1 .1 .1 .1 .0)))
 omh-refill-fixed κs a x y s t p q = ap (λ (o : Outcome ℕ). (o .yields, o .leaves .votes)) (p ∙ sym q)
 
-pub omh-held-answer-fixed : Fixes 3 omh-held-answer.ps omh-held-answer.r omh-held-answer-says.Post Given (λ κs x s. given x (now (s .1 .1 .0)))
+pub omh-held-answer-fixed : Fixes 3 omh-held-answer.ps omh-held-answer.r omh-held-answer-says.Post (Given ℤ) (λ κs x s. given x (now (s .1 .1 .0)))
 omh-held-answer-fixed κs a x y s t p q = p ∙ sym q
 
 pub omh-next-exchange-fixed : Fixes 0 omh-next-exchange.ps omh-next-exchange.r omh-next-exchange-says.Post ℕ (λ κs x s. x)
@@ -71,5 +87,29 @@ omh-age-fixed κs a x y s t p q = p ∙ sym q
 pub omh-age-class-fixed : Fixes 0 omh-age-class.ps omh-age-class.r omh-age-class-says.Post ℕ (λ κs x s. x)
 omh-age-class-fixed κs a x y s t p q = p ∙ sym q
 
+pub omh-read-frame-fixed : Fixes 2 omh-read-frame.ps omh-read-frame.r omh-read-frame-says.Post (Given (List ℤ)) (λ κs x s. given x (now (s .1 .0)))
+omh-read-frame-fixed κs a x y s t p q = p ∙ sym q
+
+pub omh-write-frame-fixed : Fixes 1 omh-write-frame.ps omh-write-frame.r omh-write-frame-says.Post (Given (List ℕ)) (λ κs x s. given x (now (s .1 .1 .1 .1 .1 .1 .1 .1 .0)))
+omh-write-frame-fixed κs a x y s t p q = p ∙ sym q
+
 pub omh-enter-frame-fixed : Fixes 3 omh-enter-frame.ps omh-enter-frame.r omh-enter-frame-says.Post (Outcome ℕ) (λ κs x s. outcomeOf x (now (s .1 .1 .1 .1 .0)) (now (s .1 .1 .1 .1 .1 .0)))
 omh-enter-frame-fixed κs a x y s t p q = p ∙ sym q
+
+pub omh-word-for-fixed : Fixes 3 omh-word-for.ps omh-word-for.r omh-word-for-says.Post (Given ℤ) (λ κs x s. given x (now (s .1 .1 .1 .1 .1 .1 .1 .1 .0)))
+omh-word-for-fixed κs a x y s t p q = p ∙ sym q
+
+pub omh-answer-for-fixed : Fixes 3 omh-answer-for.ps omh-answer-for.r omh-answer-for-says.Post (Given ℤ) (λ κs x s. given x (now (s .1 .1 .1 .1 .1 .1 .1 .0)))
+omh-answer-for-fixed κs a x y s t p q = p ∙ sym q
+
+pub omh-all-answers-fixed : Fixes 3 omh-all-answers.ps omh-all-answers.r omh-all-answers-says.Post (Given (List ℤ)) (λ κs x s. given x (now (s .1 .1 .1 .1 .1 .1 .0)))
+omh-all-answers-fixed κs a x y s t p q = p ∙ sym q
+
+pub omh-fill-fixed : Fixes 4 omh-fill.ps omh-fill.r omh-fill-says.Post (Outcome ℕ) (λ κs x s. outcomeOf x (now (s .1 .1 .1 .1 .1 .1 .1 .0)) (now (s .1 .1 .1 .1 .1 .1 .1 .1 .0)))
+omh-fill-fixed κs a x y s t p q = p ∙ sym q
+
+pub omh-bound-fixed : Fixes 2 omh-bound.ps omh-bound.r omh-bound-says.Post (Given ℤ) (λ κs x s. given x (now (s .1 .1 .1 .0)))
+omh-bound-fixed κs a x y s t p q = p ∙ sym q
+
+pub omh-list-fixed : Fixes 2 omh-list.ps omh-list.r omh-list-says.Post (ℕ × List ℕ) (λ κs x s. (x, now (s .1 .0)))
+omh-list-fixed κs a x y s t p q = λ i. ((p .0 ∙ sym (q .0)) i, (p .1 ∙ sym (q .1)) i)

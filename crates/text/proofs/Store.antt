@@ -11,7 +11,7 @@ use Rattle.text.specs.Decimal.{digitsOf, decimalOf}
 use Rattle.text.proofs.Digits.{last, one-digit, more-digits}
 use Rattle.text.proofs.Laws.{length-text}
 
-sets-last : (bs l : List ℕ) (i b : ℕ) → sets l i (bs ++ (b ∷ [])) ≡ set (sets l i bs) (i + length bs) b
+pub sets-last : (bs l : List ℕ) (i b : ℕ) → sets l i (bs ++ (b ∷ [])) ≡ set (sets l i bs) (i + length bs) b
 sets-last [] l i b = let e : i + 0 ≡ i = omega arith in rw e
 sets-last (c ∷ bs) l i b = let e : i + suc (length bs) ≡ suc i + length bs = omega arith in rw e (sets-last bs (set l i c) (suc i) b)
 

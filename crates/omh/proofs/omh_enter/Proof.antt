@@ -1,10 +1,7 @@
 -- `omh::omh_enter` meets its contract: the call's outcome, its answer as a number.
-use mathlib.Core.Path.{ap, _∙_}
-use lib.IntN.{ℤ}
-use denote.Ref.{now}
+use mathlib.Core.Path.{ap}
 use borrow.Author.Needs.{needs}
 use Rattle.words.proofs.Bits.{back-is}
-use Rattle.book.specs.Asked.{bookOf, enterAsked}
 use Rattle.omh.specs.Numbers.{numbered}
 use Rattle.omh.proofs.omh_enter.Statement.{statement}
 use Rattle.omh.proofs.omh_enter.Tie as tie
@@ -25,9 +22,7 @@ returns : tie.Need-returns
 returns c =
     let call = c .before .before .before in
     let start = call .before .before .before in
-    let a = start .args in
-    rw (c .number-of .ensures)
-    (ap numbered (call .enter .ensures ∙ ap (λ (w : ℤ). enterAsked (a .n) (a .m) (a .t) (a .p) (bookOf (now (a .words)) (now (a .votes))) (a .slot) w) (back-is (start .fits .word))))
+    rw (c .number-of .ensures) (ap numbered (rw (back-is (start .fits .word)) at (call .enter .ensures)))
 
 pub omh-enter-spec : {M : Type 1} → statement M
 omh-enter-spec =

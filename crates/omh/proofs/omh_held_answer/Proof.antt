@@ -1,12 +1,14 @@
 -- `omh::omh_held_answer` meets its contract: the held answer in the place, or the refusal.
-use mathlib.Core.Path.{_≡_, sym, ap, _∙_}
+use mathlib.Core.Path.{_≡_, ap, _∙_}
+use lib.IntN.{ℤ}
 use denote.Ref.{now}
 use borrow.Author.Needs.{needs, sfits-of}
 use Rattle.words.proofs.Bits.{back-is}
+use Rattle.paths.specs.Checks.{Answer}
 use Rattle.book.specs.Asked.{bookOf, heldAsked}
 use Rattle.book.specs.declared.Held.{Held}
 use Rattle.omh.specs.Numbers.{given, placed}
-use Rattle.omh.proofs.Placed.{ofHeld, held-placed}
+use Rattle.omh.proofs.Placed.{Carries, placed-by, by-held}
 use Rattle.omh.proofs.omh_held_answer.Statement.{statement}
 use Rattle.omh.proofs.omh_held_answer.Tie as tie
 
@@ -19,9 +21,12 @@ enum-known-w c = search needs
 enum-known-k : tie.Need-enum-known-k
 enum-known-k c = search needs
 
+abbrev asked : tie.After-held-answer → Answer ℤ
+asked c = let a = c .before .args in heldAsked (bookOf (now (a .words)) (now (a .votes)))
+
 -- what the place holds, by what the call gave
-told : (c : tie.After-held-answer) {d : Held} → c .held-answer .result ≡ d → let a = c .before .args in placed (ofHeld d) (now (a .answer)) ≡ placed (heldAsked (bookOf (now (a .words)) (now (a .votes)))) (now (a .answer))
-told c e = let a = c .before .args in held-placed (heldAsked (bookOf (now (a .words)) (now (a .votes)))) _ (sym e ∙ c .held-answer .ensures)
+told : (c : tie.After-held-answer) {d : Held} → c .held-answer .result ≡ d → let before = now (c .before .args .answer) in placed (by-held .meant d) before ≡ placed (asked c) before
+told c e = placed-by by-held (λ w. w) (asked c) _ e (c .held-answer .ensures)
 
 returns : tie.Need-returns
 returns c = ap (given 0) (back-is (sfits-of (c .known-told .given .0 .1))) ∙ told (c .before .before .before) (c .before .w .given .1)

@@ -1,0 +1,29 @@
+-- `omh::omh_fill` meets its contract: the call's outcome, its answer as a number.
+use mathlib.Core.Path.{ap}
+use borrow.Author.Needs.{needs}
+use Rattle.words.proofs.Bits.{back-is}
+use Rattle.omh.specs.Numbers.{numbered}
+use Rattle.omh.proofs.omh_fill.Statement.{statement}
+use Rattle.omh.proofs.omh_fill.Tie as tie
+
+fill-requires : tie.Need-fill-requires
+fill-requires c κs = search needs
+
+number-of-requires : tie.Need-number-of-requires
+number-of-requires c κs = search needs
+
+same-length : tie.Need-same-length
+same-length c = search needs
+
+same-length-2 : tie.Need-same-length-2
+same-length-2 c = search needs
+
+returns : tie.Need-returns
+returns c =
+    let call = c .before .before .before in
+    let start = call .before .before .before .before in
+    rw (c .number-of .ensures) (ap numbered (rw (back-is (start .fits .x)) at (call .fill .ensures)))
+
+pub omh-fill-spec : {M : Type 1} → statement M
+omh-fill-spec =
+    tie.close (tie.spec fill-requires number-of-requires same-length same-length-2 returns)

@@ -1,0 +1,42 @@
+-- `omh::omh_read_frame` meets its contract: the fields in the list, or the refusal.
+use mathlib.Core.Path.{_≡_, ap, _∙_}
+use denote.Ref.{now}
+use borrow.Author.Needs.{needs}
+use Rattle.paths.specs.Checks.{Answer}
+use Rattle.frames.specs.Asked.{readAsked}
+use Rattle.frames.specs.declared.Frame.{Frame}
+use Rattle.frames.specs.declared.Parsed.{Parsed}
+use Rattle.omh.specs.Numbers.{given, placedAs, fieldsOf}
+use Rattle.omh.proofs.Placed.{Carries, placed-by, by-parsed}
+use Rattle.omh.proofs.omh_read_frame.Statement.{statement}
+use Rattle.omh.proofs.omh_read_frame.Tie as tie
+
+read-requires : tie.Need-read-requires
+read-requires c κs = search needs
+
+enum-known-f : tie.Need-enum-known-f
+enum-known-f c = search needs
+
+fields-of-requires : tie.Need-fields-of-requires
+fields-of-requires c κs = search needs
+
+enum-known-k : tie.Need-enum-known-k
+enum-known-k c = search needs
+
+abbrev asked : tie.After-read → Answer Frame
+asked c = readAsked (now (c .before .before .args .bytes))
+
+-- what the list holds, by what the call gave
+told : (c : tie.After-read) {d : Parsed} → c .read .result ≡ d → let before = now (c .before .before .args .fields) in placedAs fieldsOf (by-parsed .meant d) before ≡ placedAs fieldsOf (asked c) before
+told c e = placed-by by-parsed fieldsOf (asked c) _ e (c .read .ensures)
+
+returns : tie.Need-returns
+returns c = ap (given 0) (c .fields-of .ensures) ∙ told (c .before .before .before .before) (c .before .before .f .given .1)
+
+returns-2 : tie.Need-returns-2
+returns-2 c = told (c .before .before .before) (c .before .k .given .1)
+
+pub omh-read-frame-spec : {M : Type 1} → statement M
+omh-read-frame-spec =
+    tie.close
+    (tie.spec read-requires enum-known-f fields-of-requires enum-known-k returns returns-2)

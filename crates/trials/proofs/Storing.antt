@@ -1,0 +1,50 @@
+-- Laws of storing pieces of a text one after the other.
+use Prim.Native.Nat.{ℕ, suc, _+_, _≤_, _<_}
+use mathlib.Core.Path.{_≡_, refl, sym, ap, _∙_}
+use mathlib.Core.List.{List, [], _∷_, _++_}
+use native.Mathlib.Omega.{arith}
+use lib.ListN.{length, getD, set, take, drop, length-append}
+use lib.Seq.{sets, length-sets, length-take-le, take-suc, take-at}
+use Rattle.text.proofs.Store.{sets-last}
+use Rattle.trials.specs.Storing.{Stored}
+
+sets-append : (p q l : List ℕ) (i : ℕ) → sets l i (p ++ q) ≡ sets (sets l i p) (i + length p) q
+sets-append [] q l i = let e : i + 0 ≡ i = omega arith in rw e
+sets-append (v ∷ p) q l i = let e : i + suc (length p) ≡ suc i + length p = omega arith in rw e (sets-append p q (set l i v) (suc i))
+
+-- one piece after another
+pub then : {l m o : List ℕ} {i j k : ℕ} (p q : List ℕ) → Stored l i p j m → Stored m j q k o → Stored l i (p ++ q) k o
+then {l} {m} {o} {i} p q a b = record {
+  ends = omega (arith, a .ends, b .ends, length-append p q);
+  leaves = b .leaves ∙ rw (a .leaves, a .ends) (sym (sets-append p q l i));
+}
+
+-- nothing stored yet
+pub nothing : (l : List ℕ) (i : ℕ) → Stored l i [] i l
+nothing l i = record { ends = omega arith; leaves = refl }
+
+-- a list keeps its length
+pub kept : {l m p : List ℕ} {i j : ℕ} → Stored l i p j m → length m ≡ length l
+kept {l} {m} {p} {i} a = ap length (a .leaves) ∙ length-sets l i p
+
+-- the same piece by another name
+pub renamed : {l m p q : List ℕ} {i j : ℕ} → p ≡ q → Stored l i p j m → Stored l i q j m
+renamed e a = rw (← e) a
+
+-- a list that begins with the text of x, by its contract
+module _ {X : Type 0} (text : X → List ℕ) (x : X) (made before : List ℕ) {many : ℕ} (e : many ≡ length (text x)) (h : made ≡ text x ++ drop (length (text x)) before) where
+  pub text-is : take many made ≡ text x
+  text-is = rw (h, e) (take-at (text x) _ (length (text x)) refl)
+
+  pub text-inside : many ≤ length made
+  text-inside = omega (arith, ap length h, length-append (text x) (drop (length (text x)) before))
+
+  pub text-long : many ≡ length (take many made)
+  text-long = sym (ap length text-is ∙ sym e)
+
+-- one byte more of a piece
+pub next : (piece l : List ℕ) (at i : ℕ) {m : List ℕ} → i < length piece → m ≡ sets l at (take i piece) → set m (at + i) (getD piece i 0) ≡ sets l at (take (i + 1) piece)
+next piece l at i {m} h e =
+    let more : i + 1 ≡ suc i = omega arith in
+    let long = length-take-le i piece (omega arith) in
+    sym (rw (more, take-suc piece i 0 h) (sets-last (take i piece) l at (getD piece i 0) ∙ rw (long, ← e)))

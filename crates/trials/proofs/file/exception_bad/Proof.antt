@@ -1,0 +1,28 @@
+-- `trials::file::exception_bad` meets its contract.
+use borrow.Author.Needs.{needs}
+use Rattle.trials.specs.File.{exceptionBad}
+use Rattle.trials.proofs.file.exception_bad.Statement.{statement}
+use Rattle.trials.proofs.file.exception_bad.Tie as tie
+
+mul-at : tie.Need-mul-at
+mul-at c = search needs
+
+add-at : tie.Need-add-at
+add-at c = search needs
+
+get16-requires : tie.Need-get16-requires
+get16-requires c κs = search needs
+
+add-byte-at : tie.Need-add-byte-at
+add-byte-at c = search needs
+
+byte-at-requires : tie.Need-byte-at-requires
+byte-at-requires c κs = search needs
+
+returns : tie.Need-returns
+unfolding exceptionBad
+returns c = rw (c .before .get16 .ensures, c .byte-at .ensures)
+
+pub exception-bad-spec : {M : Type 1} → statement M
+exception-bad-spec =
+    tie.close (tie.spec mul-at add-at get16-requires add-byte-at byte-at-requires returns)
