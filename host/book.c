@@ -1,0 +1,34 @@
+/* A card's book: the library's calls on it. */
+#include "book.h"
+
+uint8_t book_open(const struct settings *s, struct book *book)
+{
+    return omh_open(s->n, s->m, s->t, s->p, book->words, OMH_SLOTS, book->votes, OMH_SLOTS);
+}
+
+uint8_t book_enter(const struct settings *s, struct book *book, size_t slot, int32_t word)
+{
+    return omh_enter(s->n, s->m, s->t, s->p, book->words, OMH_SLOTS, book->votes, OMH_SLOTS, slot, word);
+}
+
+uint8_t book_enter_frame(const struct settings *s, struct book *book, uint16_t current,
+                         const uint8_t *frame, size_t length)
+{
+    return omh_enter_frame(s->n, s->m, s->t, s->p, book->words, OMH_SLOTS, book->votes, OMH_SLOTS,
+                           current, frame, length);
+}
+
+uint8_t book_refill(const struct settings *s, struct book *book)
+{
+    return omh_refill(s->n, s->m, s->t, s->p, book->words, OMH_SLOTS, book->votes, OMH_SLOTS);
+}
+
+uint8_t book_answer(const struct book *book, int32_t *answer)
+{
+    return omh_held_answer(book->words, OMH_SLOTS, book->votes, OMH_SLOTS, answer);
+}
+
+uint8_t book_vote(const struct settings *s, const struct book *book, size_t slot, int32_t *vote)
+{
+    return omh_vote_at(s->n, s->m, s->t, s->p, book->words, OMH_SLOTS, slot, vote);
+}

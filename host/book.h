@@ -1,0 +1,28 @@
+/* A card's book: its settings, its two lists, and the library's calls on them. */
+#ifndef BOOK_H
+#define BOOK_H
+
+#include "omh.h"
+
+/* n cards, m rounds of relay, the sender t, the own card p. */
+struct settings {
+    size_t n, m, t, p;
+};
+
+struct book {
+    int32_t words[OMH_SLOTS];
+    int32_t votes[OMH_SLOTS];
+};
+
+/* Each answers 0 or the refusal's number. */
+uint8_t book_open(const struct settings *s, struct book *book);
+uint8_t book_enter(const struct settings *s, struct book *book, size_t slot, int32_t word);
+uint8_t book_enter_frame(const struct settings *s, struct book *book, uint16_t current,
+                         const uint8_t *frame, size_t length);
+uint8_t book_refill(const struct settings *s, struct book *book);
+uint8_t book_answer(const struct book *book, int32_t *answer);
+
+/* The vote at a slot, worked out afresh from the book's words. */
+uint8_t book_vote(const struct settings *s, const struct book *book, size_t slot, int32_t *vote);
+
+#endif

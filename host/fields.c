@@ -1,0 +1,24 @@
+/* A frame's fields as a list. */
+#include "fields.h"
+
+#include "path.h"
+
+void fields_of(const struct settings *s, uint16_t exchange, size_t slot, int32_t word, int32_t fields[OMH_FIELDS])
+{
+    struct path path = path_of(slot);
+    fields[OMH_EXCHANGE] = exchange;
+    fields[OMH_SENDER] = (int32_t)s->t;
+    fields[OMH_LEVEL] = path.level;
+    fields[OMH_Q1] = path.relays[0];
+    fields[OMH_Q2] = path.relays[1];
+    fields[OMH_Q3] = path.relays[2];
+    fields[OMH_RECEIVER] = (int32_t)s->p;
+    fields[OMH_WORD] = word;
+}
+
+uint8_t fields_write(const int32_t fields[OMH_FIELDS], uint8_t *buffer, size_t length)
+{
+    return omh_write_frame((uint16_t)fields[OMH_EXCHANGE], (uint8_t)fields[OMH_SENDER], (uint8_t)fields[OMH_LEVEL],
+                           (uint8_t)fields[OMH_Q1], (uint8_t)fields[OMH_Q2], (uint8_t)fields[OMH_Q3],
+                           (uint8_t)fields[OMH_RECEIVER], fields[OMH_WORD], buffer, length);
+}

@@ -1,0 +1,178 @@
+/*
+ * What C sees of Domewhistle: the functions of the archive libomh.a. Each is
+ * proved: it takes any numbers and any content of the lent memory, ends, and
+ * does what document 01 says.
+ *
+ * A list is a pointer and its length, counted in elements. The pointer is not
+ * null, the memory has that length, and no two lists of a call overlap; that
+ * is all a caller owes.
+ *
+ * Unless said otherwise an answer is 0, or the refusal's number of document
+ * 01; after a refusal no lent memory differs. The numbers that a function may
+ * give stand beside it, in the order of its checks.
+ */
+#ifndef OMH_H
+#define OMH_H
+
+#include <stddef.h>
+#include <stdint.h>
+
+#ifdef __cplusplus
+extern "C" {
+#endif
+
+enum {
+    OMH_CARDS = 10,     /* the greatest number of cards */
+    OMH_ROUNDS = 3,     /* the greatest number of rounds of relay */
+    OMH_SLOTS = 1111,   /* the length of a book's lists */
+    OMH_TABLE = 11110,  /* the length of the bench's table: slot k, receiver p at 10 k + p */
+    OMH_FRAME = 17,     /* a frame's bytes */
+    OMH_FIELDS = 8,     /* a frame's fields */
+    OMH_TEXT = 176      /* the longest text of a listing fits */
+};
+
+/* Missing, unwrapped: document 01's E. */
+#define OMH_E INT32_C(1000000000)
+
+/* Refusal numbers, document 01's table. */
+enum {
+    OMH_REFUSED_CARDS = 1,
+    OMH_REFUSED_ROUNDS = 2,
+    OMH_REFUSED_SENDER = 3,
+    OMH_REFUSED_OWN = 4,
+    OMH_REFUSED_LONG = 5,
+    OMH_REFUSED_VALUE = 6,
+    OMH_REFUSED_STATUS = 7,
+    OMH_REFUSED_PATH = 8,
+    OMH_REFUSED_SIZE = 9,
+    OMH_REFUSED_MARK = 10,
+    OMH_REFUSED_VERSION = 11,
+    OMH_REFUSED_OLD = 12,
+    OMH_REFUSED_AHEAD = 13,
+    OMH_REFUSED_FORM = 14,
+    OMH_REFUSED_FOREIGN = 15,
+    OMH_REFUSED_EXCEPTION = 16
+};
+
+/* A frame's fields, by their place in the list that omh_read_frame fills. */
+enum {
+    OMH_EXCHANGE = 0,
+    OMH_SENDER = 1,
+    OMH_LEVEL = 2,
+    OMH_Q1 = 3,
+    OMH_Q2 = 4,
+    OMH_Q3 = 5,
+    OMH_RECEIVER = 6,
+    OMH_WORD = 7
+};
+
+/* ---- words: these answer a word, and refuse nothing */
+
+int32_t omh_read_at(size_t level, int32_t word);
+int32_t omh_wrap(int32_t word);
+int32_t omh_unwrap(int32_t word);
+int32_t omh_majority(const int32_t *list, size_t list_len);
+
+/* ---- the vote: 1, 2, 3, 4, 5, 8 */
+
+uint8_t omh_vote_at(size_t n, size_t m, size_t t, size_t p,
+                    const int32_t *words, size_t words_len,
+                    size_t slot, int32_t *vote);
+
+/* ---- the book: two lists of OMH_SLOTS words */
+
+/* 1, 2, 3, 4, 5 */
+uint8_t omh_open(size_t n, size_t m, size_t t, size_t p,
+                 int32_t *words, size_t words_len,
+                 int32_t *votes, size_t votes_len);
+
+/* 1, 2, 3, 4, 5, 8 */
+uint8_t omh_enter(size_t n, size_t m, size_t t, size_t p,
+                  int32_t *words, size_t words_len,
+                  int32_t *votes, size_t votes_len,
+                  size_t slot, int32_t word);
+
+/* 1, 2, 3, 4, 5 */
+uint8_t omh_refill(size_t n, size_t m, size_t t, size_t p,
+                   const int32_t *words, size_t words_len,
+                   int32_t *votes, size_t votes_len);
+
+/* 5 */
+uint8_t omh_held_answer(const int32_t *words, size_t words_len,
+                        const int32_t *votes, size_t votes_len,
+                        int32_t *answer);
+
+/* ---- frames */
+
+/* The number after x; 0 after 65,535. */
+uint16_t omh_next_exchange(uint16_t x);
+
+/* The current number less the frame's, modulo 65,536. */
+uint16_t omh_age(uint16_t current, uint16_t frame);
+
+/* 0 for current, 12 for old, 13 for ahead. */
+uint8_t omh_age_class(uint16_t current, uint16_t frame);
+
+/* Puts a frame's fields in the eight places. 9, 10, 11, 14 */
+uint8_t omh_read_frame(const uint8_t *frame, size_t frame_len,
+                       int32_t fields[OMH_FIELDS]);
+
+/* Puts the frame's OMH_FRAME bytes in the buffer. 5, 14 */
+uint8_t omh_write_frame(uint16_t exchange, uint8_t sender, uint8_t level,
+                        uint8_t q1, uint8_t q2, uint8_t q3,
+                        uint8_t receiver, int32_t word,
+                        uint8_t *buffer, size_t buffer_len);
+
+/* Enters a frame in a book; `current` is the exchange number.
+   1, 2, 3, 4, 5, 9, 10, 11, 14, 12, 13, 15, 8 */
+uint8_t omh_enter_frame(size_t n, size_t m, size_t t, size_t p,
+                        int32_t *words, size_t words_len,
+                        int32_t *votes, size_t votes_len,
+                        uint16_t current,
+                        const uint8_t *frame, size_t frame_len);
+
+/* ---- the bench: OMH_CARDS status bytes and a table of OMH_TABLE words */
+
+/* The word that card p receives at a slot. 1, 2, 3, 4, 5, 7, 6, 8 */
+uint8_t omh_word_for(size_t n, size_t m, size_t t, int32_t x,
+                     const uint8_t *statuses, size_t statuses_len,
+                     const int32_t *table, size_t table_len,
+                     size_t p, size_t slot, int32_t *word);
+
+/* The answer of card p. 1, 2, 3, 4, 5, 7, 6 */
+uint8_t omh_answer_for(size_t n, size_t m, size_t t, int32_t x,
+                       const uint8_t *statuses, size_t statuses_len,
+                       const int32_t *table, size_t table_len,
+                       size_t p, int32_t *answer);
+
+/* The answers of the n cards, in the first n places of OMH_CARDS; the rest
+   is untouched. 1, 2, 3, 5, 7, 6 */
+uint8_t omh_all_answers(size_t n, size_t m, size_t t, int32_t x,
+                        const uint8_t *statuses, size_t statuses_len,
+                        const int32_t *table, size_t table_len,
+                        int32_t *answers, size_t answers_len);
+
+/* Fills a book for card p. 1, 2, 3, 4, 5, 7, 6 */
+uint8_t omh_fill(size_t n, size_t m, size_t t, int32_t x,
+                 const uint8_t *statuses, size_t statuses_len,
+                 const int32_t *table, size_t table_len, size_t p,
+                 int32_t *words, size_t words_len,
+                 int32_t *votes, size_t votes_len);
+
+/* Whether the bound holds: 1 or 0 in the place. 1, 2, 5, 7 */
+uint8_t omh_bound(size_t n, size_t m,
+                  const uint8_t *statuses, size_t statuses_len,
+                  int32_t *held);
+
+/* ---- listing */
+
+/* Puts the text of a listing file at the start of the OMH_TEXT places and
+   answers its length; the places after it are untouched. For a file that is
+   refused the text is the line `refused K`. */
+size_t omh_list(const uint8_t *file, size_t file_len, uint8_t text[OMH_TEXT]);
+
+#ifdef __cplusplus
+}
+#endif
+
+#endif

@@ -1,0 +1,22 @@
+/* Paths and their slots, document 01's 'Settings and paths'; for the soak, which compares the library with it. */
+#ifndef PATH_H
+#define PATH_H
+
+#include "book.h"
+
+#include <stdbool.h>
+
+enum { NO_RELAY = 255 };
+
+struct path {
+    uint8_t level;
+    uint8_t relays[OMH_ROUNDS];     /* NO_RELAY where the level has none */
+};
+
+/* The path of a slot, which is below OMH_SLOTS. */
+struct path path_of(size_t slot);
+
+/* Whether the slot, any number, is live for p. */
+bool is_live(const struct settings *s, size_t slot);
+
+#endif

@@ -1,0 +1,92 @@
+# What the host's tests share: running a command and comparing what it did. Sourced by tests/host.
+
+passed=0 failed=0
+
+# One test: two texts are equal.
+equal() { # NAME EXPECTED GOT
+    if [[ $2 == "$3" ]]; then
+        passed=$((passed + 1))
+    else
+        failed=$((failed + 1))
+        printf 'FAILED: %s: expected %q, got %q\n' "$1" "$2" "$3"
+    fi
+}
+
+# One test: a text matches a pattern of the shell, which so stands unquoted.
+match() { # NAME PATTERN GOT
+    if [[ $3 == $2 ]]; then
+        passed=$((passed + 1))
+    else
+        failed=$((failed + 1))
+        printf 'FAILED: %s: expected a match of %q, got %q\n' "$1" "$2" "$3"
+    fi
+}
+
+# One test: the command prints exactly this on standard output and ends with this status.
+# What it says on standard error is kept for `says`.
+gives() { # NAME STATUS OUTPUT COMMAND..
+    local name=$1 status=$2 output=$3
+    shift 3
+    equal "$name" "${output}status $status" "$("$@" 2>"$scratch/said"; echo "status $?")"
+}
+
+# One test: what the last command of `gives` said on standard error.
+says() { # NAME PATTERN
+    match "$1, standard error" "$2" "$(<"$scratch/said")"
+}
+
+# Two tests: wrong usage, or a file that cannot be read or written.
+wrong() { # NAME PATTERN COMMAND..
+    local name=$1 pattern=$2
+    shift 2
+    gives "$name" 2 '' "$@"
+    says "$name" "bench: $pattern"
+}
+
+# Two tests: a refusal, with what is printed before it.
+refused() { # NAME NUMBER OUTPUT COMMAND..
+    local name=$1 number=$2 output=$3
+    shift 3
+    gives "$name" 1 "${output}refused $number"$'\n' "$@"
+    says "$name" "bench: refused $number: ${meanings[number]}"
+}
+
+# Document 01's table of refusals.
+meanings=(
+    [1]='n is not 1 to 10'
+    [2]='m is over 3 or not below n'
+    [3]='t is not below n'
+    [4]='p is not below n'
+    [5]="a lent list or the writer's buffer has another length"
+    [6]='x is not ordinary'
+    [7]='a status byte is over 3, or not 0 from card n up'
+    [8]='the path or slot is not live for p'
+    [9]="a frame is not 17 bytes; a listing file's length is wrong"
+    [10]='wrong mark'
+    [11]='version is not 1'
+    [12]='frame is old'
+    [13]='frame is ahead'
+    [14]='frame or record is not well formed'
+    [15]='frame has another sender or receiver than the book'
+    [16]='listing file: over 64 exceptions, a slot over 1,110 or a receiver over 9'
+)
+
+# Writes the bytes that are given as hex, blanks between them or not.
+bytes() { # HEX..
+    local hex i text=''
+    hex=$(printf '%s' "$@")
+    hex=${hex//[[:space:]]/}
+    for ((i = 0; i < ${#hex}; i += 2)); do
+        text+="\\x${hex:i:2}"
+    done
+    printf "$text"
+}
+
+# Passes standard input on byte by byte, slowly.
+slowly() {
+    local byte
+    while IFS= read -r byte; do
+        printf "\\x$byte"
+        sleep 0.005
+    done < <(od -An -v -tx1 -w1 | tr -d ' ')
+}

@@ -1,0 +1,68 @@
+# bench soak. Sourced by tests/host.
+
+# A pattern for the whole output of a soak without failures.
+summary() { # SEED EXCHANGES
+    printf 'seed %s\nexchanges         %12s\n' "$1" "$2"
+    printf '%-16s  *\n' 'within the bound' enterings refusals
+    printf 'failures                     0\nstatus 0'
+}
+
+# Runs a soak; its output with the status in a last line.
+soak() { # OPTION..
+    "$bench" soak "$@" 2>"$scratch/said"
+    echo "status $?"
+}
+
+got=$(soak --seed 1 --count 20000 --progress)
+match 'a soak' "$(summary 1 20000)" "$got"
+says 'the progress of a soak' '*20000 of 20000 exchanges'
+[[ $got =~ within\ the\ bound\ +([0-9]+) ]] && within=${BASH_REMATCH[1]}
+match 'a soak has exchanges within the bound and others' yes "$( ((10000 < within && within < 20000)) && echo yes)"
+
+first=$(soak --seed 2 --count 50)
+match 'a short soak' "$(summary 2 50)" "$first"
+says 'no progress where standard error is no terminal' ''
+equal 'a seed repeats' "$first" "$(soak --count 50 --seed 2)"
+other=$(soak --seed 3 --count 50)
+equal 'another seed is another soak' yes "$([[ ${first#*within} != "${other#*within}" ]] && echo yes)"
+match 'a seed from the clock' "$(summary '*' '[ ]*10')" "$(soak --count 10)"
+
+# Two parts of a soak have what the whole has.
+counts() { # OPTION..
+    soak "$@" | while read -r -a line; do
+        [[ ${line[0]} =~ ^(exchanges|within|enterings|refusals)$ ]] && echo "${line[-1]}"
+    done
+}
+mapfile -t whole < <(counts --seed 2 --count 50)
+mapfile -t one < <(counts --seed 2 --count 20)
+mapfile -t two < <(counts --seed 2 --first 21 --count 30)
+for i in 0 1 2 3; do
+    equal 'a soak in two parts' "${whole[i]}" $((one[i] + two[i]))
+done
+
+wrong 'an unknown option' "soak has no option '--cuont'; see bench soak --help" "$bench" soak --cuont 5
+wrong 'an option without its number' '--seed takes a number; see bench soak --help' "$bench" soak --count 5 --seed
+most=18446744073709551615
+wrong 'a seed that is no number' "--seed is a number from 0 to $most, not '0x1'" "$bench" soak --seed 0x1
+wrong 'a seed that is too large' "--seed is a number from 0 to $most, not '18446744073709551616'" \
+    "$bench" soak --seed 18446744073709551616
+wrong 'a count of 0' "--count is a number from 1 to $most, not '0'" "$bench" soak --count 0
+wrong 'a first of 0' "--first is a number from 1 to $most, not '0'" "$bench" soak --first 0
+match 'the largest numbers' "$(summary $most 1)" "$(soak --seed $most --first $most --count 1)"
+
+# A soak finds each impostor, and finds it again when its exchange is repeated.
+gives 'no impostor' 0 "$("$bench" soak --seed 4 --count 300)"$'\n' "$build/impostors" soak --seed 4 --count 300
+found=$'seed 4\nfailed in exchange *\nn *, m *, t *, x *, statuses *\nto repeat it: bench soak *\n'
+found+=$'exchanges *\nfailures                     1\nstatus 1'
+while IFS= read -r line; do
+    [[ $line =~ is\(\"(.*)\"\) ]] || continue
+    export IMPOSTOR="${BASH_REMATCH[1]}"
+    got=$("$build/impostors" soak --seed 4 --count 300; echo "status $?")
+    match "the impostor: $IMPOSTOR" "$found" "$got"
+    [[ $got =~ (failed[^$'\n']*).*to\ repeat\ it:\ bench\ ([^$'\n']*) ]] || continue
+    failure=${BASH_REMATCH[1]}
+    # The command's words.
+    read -r -a again <<<"${BASH_REMATCH[2]}"
+    match "the impostor again: $IMPOSTOR" "*$failure*" "$("$build/impostors" "${again[@]}")"
+done <host/tests/impostors.c
+unset IMPOSTOR

@@ -1,0 +1,31 @@
+# Help texts and the choice of a command. Sourced by tests/host.
+
+# A help text: on standard output, in lines of at most 80 columns, and nothing is done.
+helps() { # FIRST-LINE COMMAND..
+    local first=$1 name="${*:2}" text line
+    shift
+    text=$("$bench" "$@" 2>"$scratch/said" </dev/null; echo "status $?")
+    match "bench $name" "$first"$'\n'*$'\n'"status 0" "$text"
+    says "bench $name" ''
+    while IFS= read -r line; do
+        [ ${#line} -le 80 ] || equal "bench $name, a line's length" 80 ${#line}
+    done <<<"$text"
+}
+
+helps 'usage: bench COMMAND *' --help
+helps 'usage: bench list FILE' list --help
+helps 'usage: bench frame make EXCHANGE SENDER LEVEL Q1 Q2 Q3 RECEIVER WORD' frame --help
+helps 'usage: bench frame make EXCHANGE SENDER LEVEL Q1 Q2 Q3 RECEIVER WORD' frame make --help
+helps 'usage: bench frame make EXCHANGE SENDER LEVEL Q1 Q2 Q3 RECEIVER WORD' frame show --help
+helps 'usage: bench card N M T P \[EXCHANGE\]' card --help
+helps 'usage: bench soak \[--seed S\] \[--count C\] \[--first F\] \[--progress\]' soak --help
+helps 'usage: bench soak *' soak --count 5 --help
+for command in list frame card soak; do
+    match "bench --help names $command" *$'\n'"  $command "* "$("$bench" --help)"
+done
+
+wrong 'no command' 'no command is given; see bench --help' "$bench"
+wrong 'an unknown command' "there is no command 'lists'; see bench --help" "$bench" lists
+wrong 'a command of no letters' "there is no command ''; see bench --help" "$bench" ''
+wrong 'help that cannot be written' 'standard output: No space left on device' \
+    bash -c '"$0" --help >/dev/full' "$bench"
