@@ -1,0 +1,92 @@
+//! Document 01, "The book": one book kept by both programs, compared after each call.
+
+use crate::lent::Lent;
+use crate::{compare, ffi, number_of};
+use second::paths::Settings;
+use second::{book, frames, Refusal};
+use std::fmt::Arguments;
+
+pub struct Book {
+    words: Lent<i32>,
+    votes: Lent<i32>,
+}
+
+impl Book {
+    /// A book with these lists, which may have any lengths and hold any words.
+    pub fn new(words: Vec<i32>, votes: Vec<i32>) -> Self {
+        Book { words: Lent::new(words), votes: Lent::new(votes) }
+    }
+
+    pub fn open(&mut self, settings: Settings) -> u8 {
+        self.call(
+            format_args!("open {settings:x?}"),
+            |words, votes| ffi::open(settings, words, votes),
+            |words, votes| book::open(settings, words, votes),
+        )
+    }
+
+    pub fn enter(&mut self, settings: Settings, slot: usize, word: i32) -> u8 {
+        self.call(
+            format_args!("enter {settings:x?} slot {slot:x} word {word:x}"),
+            |words, votes| ffi::enter(settings, words, votes, slot, word),
+            |words, votes| book::enter(settings, words, votes, slot, word),
+        )
+    }
+
+    pub fn refill(&mut self, settings: Settings) -> u8 {
+        self.call(
+            format_args!("refill {settings:x?}"),
+            |words, votes| ffi::refill(settings, words, votes),
+            |words, votes| book::refill(settings, words, votes),
+        )
+    }
+
+    pub fn enter_frame(&mut self, settings: Settings, current: u16, frame: &[u8]) -> u8 {
+        let lent = Lent::new(frame.to_vec());
+        let call = format_args!("enter_frame {settings:x?} current {current:x} {frame:02x?}");
+        let number = self.call(
+            call,
+            |words, votes| ffi::enter_frame(settings, words, votes, current, lent.library()),
+            |words, votes| frames::enter_frame(settings, words, votes, current, lent.second()),
+        );
+        lent.compare("frame", call);
+        number
+    }
+
+    /// The held answer; `before` is what the lent place holds before the call.
+    pub fn held_answer(&mut self, before: i32) -> u8 {
+        let mut answer = Lent::new(vec![before]);
+        let (words, votes) = (&self.words, &self.votes);
+        let place = &mut answer.library_mut()[0];
+        let number = ffi::held_answer(words.library(), votes.library(), place);
+        let second = book::held_answer(words.second(), votes.second());
+        answer.second_mut()[0] = second.unwrap_or(before);
+        let (w, v) = (words.second(), votes.second());
+        let call = format_args!("held_answer words {w:x?} votes {v:x?} place {before:x}");
+        compare(call, number, number_of(&second));
+        answer.compare("answer", call);
+        words.compare("words", call);
+        votes.compare("votes", call);
+        number
+    }
+
+    /// Makes a call in both programs and compares the outcome and both lists, which a
+    /// refusal leaves as they were.
+    fn call(
+        &mut self,
+        call: Arguments,
+        library: impl FnOnce(&mut [i32], &mut [i32]) -> u8,
+        second: impl FnOnce(&mut [i32], &mut [i32]) -> Result<(), Refusal>,
+    ) -> u8 {
+        let before = (self.words.second().to_vec(), self.votes.second().to_vec());
+        let number = library(self.words.library_mut(), self.votes.library_mut());
+        let second = second(self.words.second_mut(), self.votes.second_mut());
+        let call = format_args!("{call} words {:x?} votes {:x?}", before.0, before.1);
+        compare(call, number, number_of(&second));
+        self.words.compare("words", call);
+        self.votes.compare("votes", call);
+        let kept = self.words.second() == before.0 && self.votes.second() == before.1;
+        assert!(number == 0 || kept, "{call}: a refusal changed the book");
+        number
+    }
+}

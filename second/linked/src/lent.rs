@@ -1,0 +1,50 @@
+//! Memory lent to both programs.
+
+use crate::compare;
+use std::fmt::{Arguments, Debug};
+
+/// Places before and after the library's list that no call may touch.
+const GUARD: usize = 4;
+const GUARD_BYTE: u8 = 0x5A;
+
+/// A list that each program is lent in memory of its own, the library's between guards.
+pub struct Lent<T> {
+    guarded: Vec<T>,
+    second: Vec<T>,
+}
+
+impl<T: Copy + PartialEq + Debug + From<u8>> Lent<T> {
+    pub fn new(list: Vec<T>) -> Self {
+        let guard = [T::from(GUARD_BYTE); GUARD];
+        Lent { guarded: [&guard, &list[..], &guard].concat(), second: list }
+    }
+
+    pub fn library(&self) -> &[T] {
+        &self.guarded[GUARD..self.guarded.len() - GUARD]
+    }
+
+    pub fn library_mut(&mut self) -> &mut [T] {
+        let end = self.guarded.len() - GUARD;
+        &mut self.guarded[GUARD..end]
+    }
+
+    pub fn second(&self) -> &[T] {
+        &self.second
+    }
+
+    pub fn second_mut(&mut self) -> &mut [T] {
+        &mut self.second
+    }
+
+    /// The two lists are equal, and the guards stand.
+    pub fn compare(&self, name: &str, call: Arguments) {
+        let (library, second) = (self.library(), self.second());
+        if library != second {
+            let place = (0..).find(|&place| library[place] != second[place]).unwrap_or(0);
+            compare(format_args!("{call}: {name} at {place}"), library[place], second[place]);
+        }
+        let guard = [T::from(GUARD_BYTE); GUARD];
+        let (before, after) = (&self.guarded[..GUARD], &self.guarded[GUARD + second.len()..]);
+        compare(format_args!("{call}: around {name}"), (before, after), (&guard, &guard));
+    }
+}

@@ -1,0 +1,35 @@
+//! The proved library beside the second program: both get the same input, and the first
+//! difference ends the run with that input in hex.
+//!
+//! `ffi` is the library and `random` the numbers behind every input. The modules named
+//! after a part of document 01 make that part's inputs, good and bad, and compare one call
+//! at a time. A comparison yields 0 or the refusal's number, for a `Tally`.
+
+pub mod bench;
+pub mod book;
+pub mod ffi;
+pub mod frames;
+pub mod lent;
+pub mod listing;
+pub mod random;
+pub mod runs;
+pub mod settings;
+pub mod tally;
+pub mod vote;
+pub mod words;
+
+use second::Refusal;
+use std::fmt::{Arguments, Debug};
+
+/// 0, or the refusal's number, as the library gives it.
+pub fn number_of<T>(outcome: &Result<T, Refusal>) -> u8 {
+    outcome.as_ref().err().copied().unwrap_or(0)
+}
+
+/// Ends the run where the two programs differ; `call` names the call and its whole input.
+pub fn compare<T: PartialEq + Debug>(call: Arguments, library: T, second: T) {
+    if library != second {
+        let seed = random::seed();
+        panic!("SEED={seed} {call}: library {library:x?}, second program {second:x?}");
+    }
+}

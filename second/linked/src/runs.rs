@@ -1,0 +1,137 @@
+//! Runs of calls on one card's book: words entered by slot and by frame, good ones and
+//! refused ones, second words for a slot, and other calls between them.
+
+use crate::book::Book;
+use crate::frames::{damage, frame_of, record_for};
+use crate::random::Random;
+use crate::settings::{any, any_slot, live_slots, of_rounds};
+use crate::tally::Tally;
+use crate::words::{word, words};
+use second::paths::{Settings, SLOTS};
+
+/// Lengths of a book's two lists that are refused, in either order.
+const OTHER_LENGTHS: [[usize; 2]; 6] = [
+    [0, 0],
+    [0, SLOTS],
+    [1, SLOTS],
+    [SLOTS - 1, SLOTS],
+    [SLOTS, SLOTS + 1],
+    [SLOTS - 1, SLOTS + 1],
+];
+
+/// The outcomes of each call on books.
+#[derive(Debug, Default)]
+pub struct Outcomes {
+    pub open: Tally,
+    pub enter: Tally,
+    pub refill: Tally,
+    pub held_answer: Tally,
+    pub enter_frame: Tally,
+}
+
+pub struct Run<'a> {
+    random: &'a mut Random,
+    outcomes: &'a mut Outcomes,
+    settings: Settings,
+    live: Vec<usize>,
+    /// The words that are entered; few differ, so that votes are won.
+    words: Vec<i32>,
+    current: u16,
+    book: Book,
+}
+
+impl<'a> Run<'a> {
+    /// A run of a card among n with m rounds. Its book is opened, or holds any words.
+    pub fn new(random: &'a mut Random, outcomes: &'a mut Outcomes, (n, m): (usize, usize)) -> Self {
+        let settings = of_rounds(random, n, m);
+        let mut book = Book::new(words(random, SLOTS), words(random, SLOTS));
+        if random.one_in(2) {
+            outcomes.open.add(book.open(settings));
+        }
+        let (words, current) = (words(random, 64), random.bits() as u16);
+        let live = live_slots(settings);
+        Run { random, outcomes, settings, live, words, current, book }
+    }
+
+    /// Enters one word by slot or by frame, and at times makes another call first.
+    pub fn enter(&mut self) {
+        if self.random.one_in(6) {
+            self.other_call();
+        }
+        if self.random.one_in(3) {
+            self.enter_frame();
+        } else {
+            let (settings, slot, word) = (self.settings(), self.slot(), self.word());
+            self.outcomes.enter.add(self.book.enter(settings, slot, word));
+        }
+    }
+
+    fn enter_frame(&mut self) {
+        let (settings, word) = (self.settings(), self.word());
+        let slot = self.slot().min(SLOTS - 1);
+        let mut frame = frame_of(&record_for(settings, self.current, slot, word)).to_vec();
+        if self.random.one_in(4) {
+            for _ in 0..1 + self.random.below(3) {
+                damage(self.random, &mut frame);
+            }
+        }
+        let number = self.book.enter_frame(settings, self.current, &frame);
+        self.outcomes.enter_frame.add(number);
+    }
+
+    fn other_call(&mut self) {
+        let settings = self.settings();
+        match self.random.below(16) {
+            0 => self.outcomes.open.add(self.book.open(settings)),
+            1..=3 => self.outcomes.refill.add(self.book.refill(settings)),
+            4..=5 => self.current = self.current.wrapping_add(1),
+            6..=8 => self.call_with_other_lengths(),
+            _ => {
+                let before = word(self.random);
+                self.outcomes.held_answer.add(self.book.held_answer(before));
+            }
+        }
+    }
+
+    /// Makes each call on a book of which a list or both have another length.
+    fn call_with_other_lengths(&mut self) {
+        let (settings, slot, word) = (self.settings(), self.slot(), self.word());
+        let record = record_for(settings, self.current, slot.min(SLOTS - 1), word);
+        let mut lengths = self.random.pick(&OTHER_LENGTHS);
+        self.random.shuffle(&mut lengths);
+        let [words, votes] = lengths.map(|length| words(self.random, length));
+        let mut book = Book::new(words, votes);
+        self.outcomes.open.add(book.open(settings));
+        self.outcomes.enter.add(book.enter(settings, slot, word));
+        self.outcomes.refill.add(book.refill(settings));
+        self.outcomes.held_answer.add(book.held_answer(word));
+        let number = book.enter_frame(settings, self.current, &frame_of(&record));
+        self.outcomes.enter_frame.add(number);
+    }
+
+    /// The run's own settings; one time in sixteen any.
+    fn settings(&mut self) -> Settings {
+        if self.random.one_in(16) {
+            any(self.random)
+        } else {
+            self.settings
+        }
+    }
+
+    /// A live slot; one time in eight any.
+    fn slot(&mut self) -> usize {
+        if self.random.one_in(8) {
+            any_slot(self.random)
+        } else {
+            self.random.pick(&self.live)
+        }
+    }
+
+    fn word(&mut self) -> i32 {
+        if self.random.one_in(8) {
+            word(self.random)
+        } else {
+            self.random.pick(&self.words)
+        }
+    }
+}

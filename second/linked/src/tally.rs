@@ -1,0 +1,26 @@
+//! Counts of outcomes, so that a test can tell that it met every refusal it is there for.
+
+/// How often each outcome came: 0, or a refusal's number.
+#[derive(Debug, Default)]
+pub struct Tally([u64; 17]);
+
+impl Tally {
+    pub fn add(&mut self, number: u8) {
+        self.0[usize::from(number)] += 1;
+    }
+
+    pub fn total(&self) -> u64 {
+        self.0.iter().sum()
+    }
+
+    /// Each of these outcomes came at least so often, and no other came.
+    pub fn expect(&self, numbers: &[u8], least: u64) {
+        for (number, &times) in (0u8..).zip(&self.0) {
+            if numbers.contains(&number) {
+                assert!(times >= least, "outcome {number} came {times} times, not {least}");
+            } else {
+                assert_eq!(times, 0, "outcome {number} came");
+            }
+        }
+    }
+}

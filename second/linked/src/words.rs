@@ -1,0 +1,47 @@
+//! Document 01, "Words": single words and lists, and what both programs make of them.
+
+use crate::random::Random;
+use crate::{compare, ffi};
+use second::words::{self, E};
+
+/// The ends of the ranges that the document tells apart, those of 32 bits, and 0.
+pub const ENDS: [i32; 10] =
+    [i32::MIN, -1_000_000_000, -999_999_999, 0, 999_999_999, E, E + 1, E + 2, E + 3, i32::MAX];
+
+/// The levels, some that are over 3, and some whose low bits are a level.
+pub const LEVELS: [usize; 10] = [0, 1, 2, 3, 4, 5, 256, 65_537, 1 << 32, usize::MAX];
+
+/// A word of any kind, often one near an end of a range.
+pub fn word(random: &mut Random) -> i32 {
+    match random.below(4) {
+        0 => random.pick(&ENDS).wrapping_add(random.below(5) as i32 - 2),
+        1 => E + random.below(4) as i32,
+        2 => random.below(100) as i32 - 50,
+        _ => random.bits() as i32,
+    }
+}
+
+/// Words of which few differ, so that some majorities are found and some narrowly missed.
+pub fn words(random: &mut Random, length: usize) -> Vec<i32> {
+    let different: Vec<i32> = (0..1 + random.below(5)).map(|_| word(random)).collect();
+    let weight = random.below(4);
+    let mut any = || random.below(different.len() + weight).saturating_sub(weight);
+    (0..length).map(|_| different[any()]).collect()
+}
+
+pub fn read_wrap_unwrap(word: i32) {
+    for level in LEVELS {
+        let library = ffi::read_at(level, word);
+        let call = format_args!("read_at level {level:x} word {word:x}");
+        compare(call, library, words::read_at(level, word));
+    }
+    compare(format_args!("wrap word {word:x}"), ffi::wrap(word), words::wrap(word));
+    compare(format_args!("unwrap word {word:x}"), ffi::unwrap(word), words::unwrap(word));
+}
+
+/// The majority of a list, which both programs find.
+pub fn majority(list: &[i32]) -> i32 {
+    let second = words::majority(list);
+    compare(format_args!("majority list {list:x?}"), ffi::majority(list), second);
+    second
+}
