@@ -1,9 +1,15 @@
-# run: the main job. test: the gate.
-.PHONY: run test
+# run: the main job. test: the gate. host: the bench host. EXAMPLE names another file of examples/.
+.PHONY: run test host
 
-# Document 01's exchanges, until there is a listing program.
-run:
-	@tools/program bench_cases
+EXAMPLE = reversed_inside
+
+run: examples/$(EXAMPLE).omx
+	@echo 'the text of $<: card, status, answer'
+	@tools/program listing <$<
 
 test:
 	.ci/run
+
+host:
+	tools/archive
+	$(MAKE) -C host
