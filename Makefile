@@ -1,5 +1,5 @@
-# run: the main job. test: the gate. host: the bench host. EXAMPLE names another file of examples/.
-.PHONY: run test host
+# run: the main job. test: the gate. host: the bench host. bench: the speed beside plain C. EXAMPLE names another file of examples/.
+.PHONY: run test host bench
 
 EXAMPLE = reversed_inside
 
@@ -13,3 +13,7 @@ test:
 host:
 	tools/archive
 	$(MAKE) -C host
+
+bench:
+	tools/archive
+	$(MAKE) -C host/speed

@@ -3,9 +3,10 @@
  * proved: it takes any numbers and any content of the lent memory, ends, and
  * does what document 01 says.
  *
- * A list is a pointer and its length, counted in elements. The pointer is not
- * null, the memory has that length, and no two lists of a call overlap; that
- * is all a caller owes.
+ * A list is a pointer and its length, counted in elements; a place for one
+ * word, the eight fields and the text are pointers alone. No pointer is null,
+ * the memory behind it has its length, and nothing that a call may write
+ * overlaps anything else of the call; that is all a caller owes.
  *
  * Unless said otherwise an answer is 0, or the refusal's number of document
  * 01; after a refusal no lent memory differs. The numbers that a function may

@@ -136,8 +136,8 @@ uint8_t __wrap_omh_read_frame(const uint8_t *frame, size_t frame_len, int32_t *f
         fields[OMH_SENDER] = frame[12];
         fields[OMH_RECEIVER] = frame[7];
     }
-    if (is("a relay named twice is read once") && refused == 0 && frame[8] > 1 && frame[9] == frame[10])
-        fields[OMH_Q2] = 255;
+    if (is("a relay named twice is read as another") && refused == 0 && frame[8] > 1 && frame[9] == frame[10])
+        fields[OMH_Q2] = frame[9] == 0;
     if (is("a refused reading fills a field") && refused != 0)
         fields[OMH_WORD] = 0;
     return refused;

@@ -20,9 +20,10 @@ use Rattle.vote.specs.Vote.{vote}
 use Rattle.vote.specs.Asked.{votedOf, answerAsked as voteAnswer}
 use Rattle.vote.specs.declared.Voted.{Voted}
 use Rattle.vote.specs.declared.Voted.the-variants as voted
+use Rattle.book.specs.Asked.{doneOf}
 use Rattle.book.specs.declared.Done.the-variants as done
 use Rattle.bench.specs.Dealing.{Deals}
-use Rattle.bench.specs.Asked.{toldOf, boundedOf, inputsLong, valueChecks, answersChecks, answersWith, doneBy, boundChecks, boundAsked}
+use Rattle.bench.specs.Asked.{toldOf, boundedOf, inputsLong, valueChecks, answersChecks, answersWith, boundChecks, boundAsked}
 use Rattle.bench.specs.declared.Told.the-variants as told
 use Rattle.bench.proofs.Statuses.{at-most-3}
 use Rattle.bench.proofs.Counting.{having, bounded-by}
@@ -123,8 +124,8 @@ all-asked n m t x statuses words list e =
     }
 
 module _ {no v : ℕ} (e : no ≡ v) where
-  pub all-refused : (no ≡ 0 → ⊥) → (list made : List ℤ) → answersWith (done.Refused no) list ≡ answersWith (doneBy (answer v tt)) (after v list made)
+  pub all-refused : (no ≡ 0 → ⊥) → (list made : List ℤ) → answersWith (done.Refused no) list ≡ answersWith (doneOf (answer v tt)) (after v list made)
   all-refused n list made = rw (← e, answer-refused no (tt {0}) n, after-refused no list made n)
 
-  pub all-done : no ≡ 0 → (before : List ℤ) {list made : List ℤ} → list ≡ made → answersWith done.Done list ≡ answersWith (doneBy (answer v tt)) (after v before made)
+  pub all-done : no ≡ 0 → (before : List ℤ) {list made : List ℤ} → list ≡ made → answersWith done.Done list ≡ answersWith (doneOf (answer v tt)) (after v before made)
   all-done z before {list} {made} h = rw (← e, answered no (tt {0}) z, after-made no before made z, h)

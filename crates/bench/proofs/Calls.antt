@@ -1,24 +1,31 @@
 -- Demand 2 of the code: what good cards' answers are where the calls for them are not refused. It assumes nothing else: any table, any words of the faulty cards.
-use Prim.Native.Nat.{ℕ, _≤_, _<_}
+use Prim.Native.Nat.{ℕ, zero, suc, _≤_, _<_}
 use mathlib.Core.Path.{_≡_, refl, sym, ap, _∙_}
-use mathlib.Core.Bool.{Bool, true, false, not}
+use mathlib.Core.Bool.{true, cond}
 use mathlib.Core.List.{List}
+use native.Mathlib.Nat.{zero-add}
 use native.Mathlib.Omega.{arith}
 use lib.Dec.{ltb}
-use lib.IntN.{ℤ}
+use lib.IntN.{ℤ, pos}
 use lib.ListN.{getD}
 use borrow.Author.Tests.{not-false, lt-ltb}
 use Rattle.words.specs.Word.{E, kindOf, readAt}
 use Rattle.words.specs.Rule.{omh}
 use Rattle.words.specs.declared.Kind.{Kind}
 use Rattle.words.specs.declared.Kind.the-variants.{Ordinary, Missing, Bad}
-use Rattle.paths.specs.Checks.{verdict, value}
+use Rattle.paths.specs.Checks.{verdict, value, answer}
 use Rattle.paths.specs.Rack.{settingsChecks}
-use Rattle.paths.proofs.Verdicts.{Good, accepted, passed, passed-lists, settings-good}
+use Rattle.paths.proofs.Verdicts.{Good, accepted, after-made, passed, passed-lists, settings-good}
+use Rattle.paths.proofs.Tables.{at-table}
 use Rattle.vote.specs.Vote.{at}
-use Rattle.bench.specs.Exchange.{statusOf, good, symmetric, manifest, Exchange, exchange, answerOf}
-use Rattle.bench.specs.Bound.{enough, bounded}
-use Rattle.bench.specs.Asked.{isOrdinary, answerAsked, boundAsked}
+use Rattle.book.specs.Book.{Book, held}
+use Rattle.book.specs.Asked.{doneOf, outcome}
+use Rattle.book.specs.declared.Done.the-variants as done
+use Rattle.bench.specs.Exchange.{statusOf, good, symmetric, manifest, Exchange, exchange, answerOf, answersOf}
+use Rattle.bench.specs.Bound.{cards, enough, bounded}
+use Rattle.bench.specs.Asked.{isOrdinary, answerAsked, answersAsked, fillAsked, boundAsked}
+use Rattle.bench.proofs.Counting.{fitted-count}
+use Rattle.bench.proofs.Filled.{filled-held}
 use Rattle.bench.proofs.Demand2.{Proper, GoodCard, Demand2, demand-2}
 
 ordinary : (k : Kind) → isOrdinary k ≡ true → k ≡ Ordinary
@@ -83,3 +90,28 @@ module _ (n m t : ℕ) (x : ℤ) (statuses : List ℕ) (words : List ℤ) where
   -- where it says so, any two good cards tell the same
   pub tell-same : boundAsked n m statuses ≡ value true → {p p′ : ℕ} {w w′ : ℤ} → Tells p w → Tells p′ w′ → w ≡ w′
   tell-same b {p} {p′} c c′ = sym (answers c) ∙ demand c .agree (says-held b) p p′ (card c) (card c′) ∙ answers c′
+
+  -- n of the bound's inequality is the number of cards
+  pub n-cards : n ≤ 10 → cards X ≡ n
+  n-cards few = fitted-count n few
+
+  -- ---- the other calls for answers
+
+  done-none : (v : ℕ) → doneOf (answer v tt) ≡ done.Done → v ≡ 0
+  unfolding answer
+  done-none zero e = refl
+  done-none (suc v) e = let z : _≡_ {A = ℕ} 0 1 = cc e in absurd (omega arith)
+
+  -- what `all_answers` leaves, where it is done, has each card's answer in its place
+  pub all-tell : (list : List ℤ) → answersAsked n m t x statuses words list .yields ≡ done.Done → n ≤ 10 → (p : ℕ) → p < n → at (answersAsked n m t x statuses words list .leaves) p ≡ answerOf omh X p
+  unfolding answersAsked answersOf
+  all-tell list e few p h =
+      let made : ℕ → ℤ = λ q. cond (ltb q n) (answerOf omh X q) (at list q) in
+      ap (λ (l : List ℤ). at l p) (after-made _ list _ (done-none _ e))
+      ∙ at-table 10 0 made p (pos 0) (omega arith)
+      ∙ rw (zero-add, lt-ltb p n h)
+
+  -- and a book that `fill` has filled holds the card's answer
+  pub filled-tells : (p : ℕ) (b : Book) → fillAsked n m t x statuses words p b .yields ≡ done.Done → held (fillAsked n m t x statuses words p b .leaves) ≡ answerOf omh X p
+  unfolding outcome
+  filled-tells p b e = ap held (after-made _ b _ (done-none _ e)) ∙ filled-held omh X p b

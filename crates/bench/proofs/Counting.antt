@@ -75,7 +75,7 @@ count-all (suc n) q = ap suc (count-all n (suc q))
 
 module _ (n : ℕ) (few : n ≤ 10) where
   -- n of the ten are fitted
-  fitted-count : count (λ q. ltb q n) 10 0 ≡ n
+  pub fitted-count : count (λ q. ltb q n) 10 0 ≡ n
   fitted-count = count-first _ (λ q. true) 10 n 0 few (λ q a b. lt-ltb q n (omega arith)) (λ q a. le-ltb q n (omega arith)) ∙ count-all n 0
 
   fitted-those : (f g : ℕ → Bool) → ((q : ℕ) → q < 10 → f q ≡ g q) → count (λ q. ltb q n && f q) 10 0 ≡ count g n 0

@@ -17,5 +17,6 @@ pub mod Dealing
 pub mod Places
 pub mod Received
 pub mod Filling
+pub mod Outside
 pub mod Slotwise
 pub mod Fixed

@@ -3,7 +3,7 @@ use Prim.Native.Nat.{ℕ}
 use mathlib.Core.Bool.{Bool, true, false, not, _&&_, _||_}
 use mathlib.Core.List.{List, [], _∷_, _++_}
 use lib.Dec.{eqb, ltb}
-use lib.IntN.{ℤ}
+use lib.IntN.{ℤ, pos}
 use lib.ListN.{length, getD}
 use Rattle.words.specs.Word.{kindOf}
 use Rattle.words.specs.Rule.{omh}
@@ -13,11 +13,9 @@ use Rattle.paths.specs.Refusal as refusal
 use Rattle.paths.specs.Checks.{Check, check, verdict, Answer, value, refused, answer, after}
 use Rattle.paths.specs.Rack.{rack, roundsChecks, senderChecks, settingsChecks}
 use Rattle.paths.specs.Slots.{live, table}
-use Rattle.vote.specs.Vote.{at}
 use Rattle.book.specs.Book.{Book}
-use Rattle.book.specs.Asked.{Outcome, outcome, sized}
+use Rattle.book.specs.Asked.{Outcome, outcome, doneOf, sized}
 use Rattle.book.specs.declared.Done.{Done}
-use Rattle.book.specs.declared.Done.the-variants as done
 use Rattle.bench.specs.Exchange.{exchange, dealt, answerOf, answersOf, filledFor}
 use Rattle.bench.specs.Bound.{bounded}
 use Rattle.bench.specs.declared.Told.{Told}
@@ -87,13 +85,9 @@ pub record Answers : Type 0 where
 abbrev pub answersWith : Done → List ℤ → Answers
 answersWith d list = record { yields = d; leaves = list }
 
-abbrev pub doneBy : Answer (Unit {0}) → Done
-doneBy (value u) = done.Done
-doneBy (refused k) = done.Refused k
-
 unfoldable pub answersAsked : ℕ → ℕ → ℕ → ℤ → List ℕ → List ℤ → List ℤ → Answers
 answersAsked n m t x statuses words list =
-    answersWith (doneBy (answer (verdict (answersChecks n m t x statuses words list)) tt))
+    answersWith (doneOf (answer (verdict (answersChecks n m t x statuses words list)) tt))
     (after (verdict (answersChecks n m t x statuses words list)) list (answersOf omh (exchange n m t x statuses words) list))
 
 -- a book filled for p: 1 to 5, 7, 6; both of its lists whole
@@ -110,4 +104,4 @@ boundChecks n m statuses =
 
 -- the sender, its value and the table do not matter to it
 unfoldable pub boundAsked : ℕ → ℕ → List ℕ → Answer Bool
-boundAsked n m statuses = answer (verdict (boundChecks n m statuses)) (bounded (exchange n m 0 (at [] 0) statuses []))
+boundAsked n m statuses = answer (verdict (boundChecks n m statuses)) (bounded (exchange n m 0 (pos 0) statuses []))

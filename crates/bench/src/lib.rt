@@ -17,10 +17,11 @@ ghost use Rattle.paths.specs.Checks.{verdict};
 ghost use Rattle.paths.specs.Rack.{rack, rackOf, senderChecks, settingsChecks};
 ghost use Rattle.paths.specs.Slots.{slots, table};
 ghost use Rattle.vote.specs.Vote.{at, vote};
+ghost use Rattle.vote.specs.Members.{may};
 ghost use Rattle.book.specs.Asked.{bookOf, sized, outcomeOf};
 ghost use Rattle.bench.specs.Exchange.{exchange, dealt};
 ghost use Rattle.bench.specs.Bound.{count};
-ghost use Rattle.bench.specs.Dealing.{Deals, sentTo, dealtOver, SlotDealt, DealtBelow, cardVote};
+ghost use Rattle.bench.specs.Dealing.{Deals, sentTo, dealtOver, SlotDealt, DealtBelow, DealtUnder, cardVote};
 ghost use Rattle.bench.specs.Asked.{toldOf, boundedOf, inputsLong, statusBad, statusesBad, isOrdinary, valueChecks, wordChecks, wordAsked, answerAsked, answersWith, answersChecks, answersAsked, fillAsked, boundChecks, boundAsked};
 
 pub enum Told {
@@ -279,23 +280,39 @@ fn answers_refused(
     values_refused(n, x, statuses, answers_long(statuses, table, answers))
 }
 
-// Deals slot k, on which a card of this status sends, to each card for which it is live.
-fn deal_slot(
-    n: usize,
-    m: usize,
-    t: usize,
-    status: u8,
-    word: i32,
-    table: &[i32],
-    k: usize,
-    words: &mut [i32],
-)
-    requires { ⌜ (n ≤ 10) × (length (now table) ≡ 11110) × (k < slots) × (length (now words) ≡ 11110) ⌝ }
-    ensures { λ r. ⌜ SlotDealt (rack n m t) n k (sentTo status word (now (table .entry)) k) (now (words .entry)) (now (words .exit)) ⌝ }
+// Deals slot 0, on which a sender of this status sends, to each of the ten cards.
+fn deal_first(status: u8, x: i32, table: &[i32], words: &mut [i32])
+    requires { ⌜ (length (now table) ≡ 11110) × (length (now words) ≡ 11110) ⌝ }
+    ensures { λ r. ⌜ SlotDealt (λ p. true) 10 0 (sentTo status x (now (table .entry)) 0) (now (words .entry)) (now (words .exit)) ⌝ }
 {
-    for p in 0..n {
-        if paths::live_for(Settings { n, m, t, p }, k) {
+    for p in 0..10 {
+        words[Settings::SLOTS * p] = sent_by(status, x, table, 0, p);
+    }
+}
+
+// Deals slot k, on which a card of this status sends, to each of these cards.
+fn deal_slot(status: u8, word: i32, table: &[i32], cards: &[bool; 10], k: usize, words: &mut [i32])
+    requires { ⌜ (length (now table) ≡ 11110) × (length (now cards) ≡ 10) × (k < slots) × (length (now words) ≡ 11110) ⌝ }
+    ensures { λ r. ⌜ SlotDealt (may (now (cards .entry))) 10 k (sentTo status word (now (table .entry)) k) (now (words .entry)) (now (words .exit)) ⌝ }
+{
+    for p in 0..10 {
+        if cards[p] {
             words[Settings::SLOTS * p + k] = sent_by(status, word, table, k, p);
+        }
+    }
+}
+
+// Deals the slots directly below slot k, each to the cards that are not on its path, and to its last relay, which never looks there.
+fn deal_below(s: Settings, statuses: &[u8], table: &[i32], k: usize, words: &mut [i32])
+    requires { ⌜ Deals (s .t) (now statuses) (now table) × (s .n ≤ 10) × (s .p ≡ 10) × (k < 111) × (length (now words) ≡ 11110) ⌝ }
+    ensures { λ r. ⌜ DealtUnder (λ x. exchange (s .n) (s .m) (s .t) x (now (statuses .entry)) (now (table .entry))) k 10 (now (words .entry)) (now (words .exit)) ⌝ }
+{
+    let level = paths::level_of(k);
+    let cards = paths::members(s, k);
+    for q in 0..10 {
+        if cards[q] {
+            let word = relayed(level, words[Settings::SLOTS * q + k]);
+            deal_slot(statuses[q], word, table, &cards, 10 * k + 1 + q, words);
         }
     }
 }
@@ -305,13 +322,14 @@ fn deal_all(n: usize, m: usize, t: usize, x: i32, statuses: &[u8], table: &[i32]
     requires { ⌜ Deals t (now statuses) (now table) × (n ≤ 10) × (m ≤ 3) × (length (now words) ≡ 11110) ⌝ }
     ensures { λ r. ⌜ DealtBelow omh (exchange n m t x (now (statuses .entry)) (now (table .entry))) slots (now (words .exit)) ⌝ }
 {
-    deal_slot(n, m, t, statuses[t], x, table, 0, words);
-    let mut k = 1;
-    while paths::level_of(k) <= m {
-        let q = (k - 1) % 10;
-        let above = (k - 1) / 10;
-        let word = relayed(paths::level_of(above), words[Settings::SLOTS * q + above]);
-        deal_slot(n, m, t, statuses[q], word, table, k, words);
+    deal_first(statuses[t], x, table, words);
+    // There is no card 10: a slot is live for it if it is live for any card, and no member is left out.
+    let s = Settings { n, m, t, p: 10 };
+    let mut k = 0;
+    while paths::level_of(k) < m {
+        if paths::live_for(s, k) {
+            deal_below(s, statuses, table, k, words);
+        }
         k += 1;
     }
 }
@@ -344,7 +362,8 @@ pub fn all_answers(
     if no != 0 {
         return Done::Refused(no);
     }
-    let mut words = [E; TABLE];
+    // Only places dealt to are read: the word to begin with does not matter.
+    let mut words = [0; TABLE];
     deal_all(n, m, t, x, statuses, table, &mut words);
     answer_all(n, m, t, &words, answers);
     Done::Done

@@ -16,19 +16,11 @@ use Rattle.vote.specs.Vote.{vote}
 use Rattle.vote.specs.Asked.{answerAsked}
 use Rattle.book.specs.Book.{Book, opened, entered, held}
 use Rattle.book.specs.Run.{Entry, step, run, wordsLeft, Sized}
+use Rattle.book.specs.Calls.{calls, openCalls}
 use Rattle.book.specs.Asked.{sized, bookChecks, slotChecks, outcome, openAsked, enterAsked, heldAsked}
 use Rattle.book.specs.declared.Done.the-variants as done
 use Rattle.book.proofs.FromOpening.{opened-sized, step-sized, run-words}
 use Rattle.book.proofs.Demand3.{omh-demand-3}
-
--- what calls of `enter` leave, one for each entry, the first of the list first
-unfoldable pub calls : ℕ → ℕ → ℕ → ℕ → Book → List Entry → Book
-calls n m t p b [] = b
-calls n m t p b (e ∷ es) = calls n m t p (enterAsked n m t p b (e .slot) (e .word) .leaves) es
-
--- what `open` and then those calls leave
-abbrev pub openCalls : ℕ → ℕ → ℕ → ℕ → Book → List Entry → Book
-openCalls n m t p b es = calls n m t p (openAsked n m t p b .leaves) es
 
 whole : (b : Book) → Sized b → not (sized b) ≡ false
 whole b z = rw (eq-eqb (length (b .words)) slots (z .words-long), eq-eqb (length (b .votes)) slots (z .votes-long))

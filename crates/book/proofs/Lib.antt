@@ -1,8 +1,10 @@
 pub mod Leaf
+pub mod Taking
 pub mod Along
 pub mod Entering
 pub mod FromOpening
 pub mod Refilling
+pub mod Filling
 pub mod OnlyLive
 pub mod LastWord
 pub mod Steps

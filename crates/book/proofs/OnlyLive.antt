@@ -15,6 +15,7 @@ use Rattle.vote.proofs.Choices.{cond-same}
 use Rattle.vote.proofs.Votes.{from-same, vote-live}
 use Rattle.book.specs.Book.{Book, holds, stored, remade, remadeAlong, entered, refilled}
 use Rattle.book.specs.Run.{Sized}
+use Rattle.book.specs.Asked.{outcome, enterAsked}
 use Rattle.book.proofs.Along.{at-set, Falls, way-falls}
 use Rattle.book.proofs.Refilling.{refilled-agrees}
 
@@ -66,3 +67,8 @@ module _ (R : Rule) (S : Rack) where
       words-same = same .words-same;
       votes-same = λ k t. refilled-agrees R S b k t ∙ vote-live R S (b .words) (c .words) (same .words-same) k t ∙ sym (refilled-agrees R S c k t);
     }
+
+-- what an entering yields, done or refused, is the same for any lists of the same lengths
+pub entering-yields : (n m t p : ℕ) (b c : Book) → length (b .words) ≡ length (c .words) → length (b .votes) ≡ length (c .votes) → (k : ℕ) (w : ℤ) → enterAsked n m t p b k w .yields ≡ enterAsked n m t p c k w .yields
+unfolding outcome
+entering-yields n m t p b c words votes k w = rw (words, votes)

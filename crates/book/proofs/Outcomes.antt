@@ -1,14 +1,12 @@
 -- What the verdict on a call makes of its outcome, and what no verdict tells.
-use Prim.Native.Nat.{ℕ, zero, suc}
-use mathlib.Core.Path.{_≡_, refl, sym, ap, ap₂, _∙_, subst}
-use mathlib.Core.Bool.{Bool, true, false, not, _&&_}
+use Prim.Native.Nat.{ℕ}
+use mathlib.Core.Path.{_≡_}
+use mathlib.Core.Bool.{false, not}
 use mathlib.Core.List.{List}
 use lib.Dec.{T, eqb, eqb→eq}
 use lib.IntN.{ℤ}
 use lib.ListN.{length}
-use borrow.Author.Tests.{not-false}
-use Rattle.words.specs.Rule.{Rule}
-use Rattle.paths.specs.Checks.{verdict, answer, after}
+use Rattle.paths.specs.Checks.{verdict}
 use Rattle.paths.specs.Rack.{rack, settingsChecks}
 use Rattle.paths.specs.Slots.{slots, live}
 use Rattle.paths.proofs.Bools.{and-left, and-right}
@@ -16,8 +14,9 @@ use Rattle.paths.proofs.Verdicts.{answered, answer-refused, after-made, after-r
 use Rattle.vote.proofs.Asking.{alive-of}
 use Rattle.book.specs.Book.{Book}
 use Rattle.book.specs.Run.{Sized}
-use Rattle.book.specs.Remaking.{Remakes, Refills}
-use Rattle.book.specs.Asked.{Outcome, doneOf, bookOf, outcomeOf, sized, bookChecks, slotChecks, outcome}
+use Rattle.book.specs.Remaking.{Enters}
+use Rattle.book.specs.Filling.{Refills}
+use Rattle.book.specs.Asked.{bookOf, outcomeOf, sized, bookChecks, slotChecks, outcome}
 use Rattle.book.specs.declared.Done.{Done}
 use Rattle.book.specs.declared.Done.the-variants as done
 
@@ -45,7 +44,7 @@ refill-asked n m t p ws vs e =
     let whole = sized-both (bookOf ws vs) (both .1) in
     record { few = settings-good n m t p (both .0) .deep; words-whole = whole .words-long; votes-whole = whole .votes-long }
 
-pub enter-asked : (n m t p : ℕ) (ws vs : List ℤ) (k : ℕ) → verdict (slotChecks n m t p (bookOf ws vs) k) ≡ 0 → Remakes (rack n m t p) ws vs k
+pub enter-asked : (n m t p : ℕ) (ws vs : List ℤ) (k : ℕ) → verdict (slotChecks n m t p (bookOf ws vs) k) ≡ 0 → Enters (rack n m t p) ws vs k
 enter-asked n m t p ws vs k e =
     let both = passed-both (bookChecks n m t p (bookOf ws vs)) tt 7 _ e in
     let book = refill-asked n m t p ws vs (both .0) in

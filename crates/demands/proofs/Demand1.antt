@@ -71,10 +71,6 @@ written-as : (x : Answer (Unit {0})) (k : ℕ) → frames.writtenOf x ≡ writte
 written-as (value a) k e = let z : _≡_ {A = ℕ} 0 1 = cc e in absurd (omega arith)
 written-as (refused j) k e = ap refused (cc e)
 
-listed-as : (x : Answer (Unit {0})) (k : ℕ) → bench.doneBy x ≡ done.Refused k → x ≡ refused k
-listed-as (value a) k e = let z : _≡_ {A = ℕ} 0 1 = cc e in absurd (omega arith)
-listed-as (refused j) k e = ap refused (cc e)
-
 told-as : (x : Answer ℤ) (k : ℕ) → bench.toldOf x ≡ told.Refused k → x ≡ refused k
 told-as (value a) k e = let z : _≡_ {A = ℕ} 0 1 = cc e in absurd (omega arith)
 told-as (refused j) k e = ap refused (cc e)
@@ -150,7 +146,7 @@ module _ (n m t p k : ℕ) where
 
       pub bench-answers : (list : List ℤ) → Refuses (bench.answersChecks n m t x statuses words list) done.Refused (bench.answersAsked n m t x statuses words list .yields) list (bench.answersAsked n m t x statuses words list .leaves)
       unfolding bench.answersAsked
-      bench-answers list = refuses _ bench.doneBy done.Refused (λ k. refl) listed-as tt list _
+      bench-answers list = refuses _ book.doneOf done.Refused (λ k. refl) done-as tt list _
 
       pub bench-bound : Judged (bench.boundChecks n m statuses) bound.Refused (bench.boundedOf (bench.boundAsked n m statuses))
       unfolding bench.boundAsked

@@ -1,16 +1,14 @@
 -- Demand 1, the laws: a verdict is the number of the first check that applies; and the order of numbers for each call.
 use Prim.Native.Nat.{ℕ, zero, suc}
-use mathlib.Core.Path.{_≡_, refl, sym, ap, _∙_}
+use mathlib.Core.Path.{_≡_, refl, ap, _∙_}
 use mathlib.Core.Bool.{Bool, true, false, cond}
 use mathlib.Core.List.{List, [], _∷_, _++_}
 use native.Mathlib.Omega.{arith}
-use lib.Dec.{T}
 use lib.IntN.{ℤ}
-use Rattle.paths.specs.Checks.{Check, check, verdict, Answer, value, refused, answer, after}
+use Rattle.paths.specs.Checks.{Check, check, verdict, Answer, refused, answer, after}
 use Rattle.paths.specs.Rack.{settingsChecks}
 use Rattle.paths.specs.Asked as paths
-use Rattle.paths.proofs.Bools.{and-right}
-use Rattle.paths.proofs.Verdicts.{passed, after-refused, answer-refused}
+use Rattle.paths.proofs.Verdicts.{after-refused}
 use Rattle.vote.specs.Asked as vote
 use Rattle.book.specs.Book.{Book}
 use Rattle.book.specs.Asked as book

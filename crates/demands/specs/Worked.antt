@@ -1,5 +1,5 @@
 -- Document 01, 'Worked by hand': the cases marked *, as one table of what a definition gives beside what it should be.
-use Prim.Native.Nat.{ℕ, suc, zero}
+use Prim.Native.Nat.{ℕ}
 use mathlib.Core.Bool.{Bool, true, cond, _&&_}
 use mathlib.Core.List.{List, [], _∷_, map, _++_}
 use lib.Dec.{eqb, ltb}
@@ -9,7 +9,7 @@ use Rattle.words.specs.Majority.{same}
 use Rattle.words.specs.Rule.{omh, majorityBy}
 use Rattle.paths.specs.Slots.{slotOf, above}
 use Rattle.frames.specs.Ages.{ageOf, classOf, classNumber}
-use Rattle.bench.specs.Exchange.{Status, good, arbitrary, symmetric, manifest, Exchange, answerOf}
+use Rattle.bench.specs.Exchange.{Status, good, arbitrary, manifest, Exchange, answerOf}
 
 pub record Case : Type 0 where
   pub given : ℤ
@@ -21,9 +21,9 @@ case a b = record { given = a; right = b }
 abbrev pub number : ℕ → ℕ → Case
 number a b = case (pos a) (pos b)
 
--- what card 0, the sender, and card 4 send to cards 1, 2 and 3: the table's words at two slots, E elsewhere
-abbrev pub twoRows : ℕ → ℤ → ℤ → ℤ → ℕ → ℕ → ℤ
-twoRows slot a b c k p =
+-- what is sent to cards 1, 2 and 3 on the path at one slot: the table's words there, E elsewhere
+abbrev pub oneRow : ℕ → ℤ → ℤ → ℤ → ℕ → ℕ → ℤ
+oneRow slot a b c k p =
     cond (eqb k slot) (cond (eqb p 1) a (cond (eqb p 2) b (cond (eqb p 3) c E))) E
 
 -- n cards, one round, sender 0
@@ -36,14 +36,14 @@ abbrev pub fiveStatuses : ℕ → Status
 fiveStatuses q = cond (eqb q 0) manifest (cond (eqb q 4) arbitrary good)
 
 abbrev pub fiveCards : Exchange
-fiveCards = oneRound 5 fiveStatuses (twoRows 5 (pos 11) (pos 12) (pos 13))
+fiveCards = oneRound 5 fiveStatuses (oneRow 5 (pos 11) (pos 12) (pos 13))
 
 -- n 4: sender 0 arbitrary, sending a, b, c
 abbrev pub fourStatuses : ℕ → Status
 fourStatuses q = cond (eqb q 0) arbitrary good
 
 abbrev pub fourCards : ℤ → ℤ → ℤ → Exchange
-fourCards a b c = oneRound 4 fourStatuses (twoRows 0 a b c)
+fourCards a b c = oneRound 4 fourStatuses (oneRow 0 a b c)
 
 -- cards 1 to 3 all answer w
 abbrev pub threeAnswer : Exchange → ℤ → List Case

@@ -2,25 +2,24 @@
 use Prim.Native.Nat.{ℕ, zero, suc, _≤_}
 use mathlib.Core.Path.{_≡_, refl, sym, ap, _∙_, subst}
 use mathlib.Core.Bool.{Bool, true, false, not, _&&_}
-use mathlib.Core.List.{List, [], _∷_}
+use mathlib.Core.List.{List, []}
 use native.Mathlib.Omega.{arith}
 use lib.Dec.{T, eqb, leb, leb→le}
 use borrow.Author.Tests.{le-leb}
 use Rattle.words.specs.Rule.{omh}
-use Rattle.paths.specs.Checks.{check, verdict, value}
-use Rattle.paths.specs.Rack.{rack, settingsChecks}
-use Rattle.paths.specs.Slots.{slotOf, all, live}
+use Rattle.paths.specs.Checks.{verdict, value}
+use Rattle.paths.specs.Rack.{rack}
+use Rattle.paths.specs.Slots.{all}
 use Rattle.paths.specs.Asked.{used, slotAsked}
 use Rattle.paths.proofs.Bools.{T-eq, and-left, and-right}
-use Rattle.paths.proofs.Verdicts.{no-checks, applies, passes, rest-decides, passed-lists}
+use Rattle.paths.proofs.Verdicts.{no-checks, applies, passes, still-refused, rest-says, passed-lists, same-first, first-decides}
 use Rattle.paths.proofs.Asking.{slot-good}
 use Rattle.book.specs.Book.{Book, entered}
-use Rattle.book.specs.Asked.{Outcome, outcome, bookChecks, enterAsked}
-use Rattle.book.specs.declared.Done.{Done}
+use Rattle.book.specs.Asked.{outcome, bookChecks, enterAsked}
 use Rattle.frames.specs.Ages.{ageOf, classOf}
 use Rattle.frames.specs.Frame.{frameOf, relayFormed, wellFormed}
 use Rattle.frames.specs.Asked.{readChecks}
-use Rattle.frames.specs.Entry.{frameSlot, isOld, isAhead, timelyChecks, frameChecks, entryChecks, frameAsked}
+use Rattle.frames.specs.Entry.{frameSlot, isOld, isAhead, timelyChecks, frameChecks, entryChecks, enterChecks, frameAsked}
 use Rattle.frames.specs.declared.Frame.{Frame}
 use Rattle.frames.specs.declared.Age.{Age}
 use Rattle.frames.specs.declared.Age.the-variants.{Current, Old, Ahead}
@@ -69,19 +68,24 @@ module _ (t p current : ℕ) (f : Frame) {a : Age} (e : a ≡ classOf (ageOf cur
   pub timely : a ≡ Current → (eqb (f .sender) t && eqb (f .receiver) p) ≡ true → 0 ≡ verdict (timelyChecks t p current f)
   timely q h = passes 12 _ _ (ap isOld (sym e ∙ q)) 0 (passes 13 _ _ (ap isAhead (sym e ∙ q)) 0 (passes 15 _ [] (ap not h) 0 no-checks))
 
--- ---- the slot decides last
+-- ---- the book's checks come before the frame's, and the slot's last
 
-module _ (n m t p : ℕ) (b : Book) (current : ℕ) (bytes : List ℕ) (none : verdict (entryChecks n m t p b current bytes) ≡ 0) where
-  book-passed : (verdict (bookChecks n m t p b) ≡ 0) × (verdict (frameChecks t p current bytes) ≡ 0)
-  book-passed = passed-lists (bookChecks n m t p b) tt (frameChecks t p current bytes) none
+-- the book is refused, and the frame too
+module _ (n m t p : ℕ) (b : Book) (current : ℕ) (bytes : List ℕ) where
+  pub by-book : {first : ℕ} → first ≡ verdict (bookChecks n m t p b) → (first ≡ 0 → ⊥) → first ≡ verdict (enterChecks n m t p b current bytes)
+  by-book e f = still-refused (entryChecks n m t p b current bytes) tt _ (still-refused (bookChecks n m t p b) tt _ e f) f
 
-  -- a frame that is entered is well formed
-  pub entry-formed : wellFormed (frameOf bytes) ≡ true
-  entry-formed = passed-all bytes (passed-lists (readChecks bytes) tt _ (book-passed .1) .0) .formed
+  -- the frame alone
+  pub by-frame : {first no : ℕ} → first ≡ verdict (bookChecks n m t p b) → first ≡ 0 → no ≡ verdict (frameChecks t p current bytes) → (no ≡ 0 → ⊥) → no ≡ verdict (enterChecks n m t p b current bytes)
+  by-frame e z g f = still-refused (entryChecks n m t p b current bytes) tt _ (rest-says (bookChecks n m t p b) tt _ e z g) f
 
-  pub frame-enters : frameAsked n m t p b current bytes ≡ enterAsked n m t p b (frameSlot (frameOf bytes)) (frameOf bytes .word)
-  unfolding frameAsked
-  frame-enters =
-      ap (λ (v : ℕ). outcome v b (entered omh (rack n m t p) b (frameSlot (frameOf bytes)) (frameOf bytes .word)))
-      (rest-decides (entryChecks n m t p b current bytes) tt _ (sym none) refl
-      ∙ sym (rest-decides (bookChecks n m t p b) tt _ (sym (book-passed .0)) refl))
+  module _ (none : verdict (frameChecks t p current bytes) ≡ 0) where
+    -- a frame that is not refused is well formed
+    pub entry-formed : wellFormed (frameOf bytes) ≡ true
+    entry-formed = passed-all bytes (passed-lists (readChecks bytes) tt _ none .0) .formed
+
+    pub frame-enters : frameAsked n m t p b current bytes ≡ enterAsked n m t p b (frameSlot (frameOf bytes)) (frameOf bytes .word)
+    unfolding frameAsked
+    frame-enters =
+        ap (λ (v : ℕ). outcome v b (entered omh (rack n m t p) b (frameSlot (frameOf bytes)) (frameOf bytes .word)))
+        (same-first (entryChecks n m t p b current bytes) (bookChecks n m t p b) _ tt tt (first-decides (bookChecks n m t p b) (frameChecks t p current bytes) tt none))

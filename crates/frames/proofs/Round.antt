@@ -5,6 +5,8 @@ use mathlib.Core.Logic.{_↔_}
 use mathlib.Core.Bool.{Bool, true, false, true≢false}
 use mathlib.Core.List.{List, [], _∷_}
 use native.Mathlib.Omega.{arith}
+use borrow.Author.Tests.{eqb-true, eqb-false}
+use lib.Dec.{eqb}
 use lib.ListN.{length}
 use Rattle.paths.specs.Checks.{verdict, value}
 use Rattle.paths.specs.Slots.{table}
@@ -12,13 +14,13 @@ use Rattle.paths.proofs.Verdicts.{answered}
 use Rattle.paths.proofs.Tables.{is-table}
 use Rattle.frames.specs.Bytes.{byte, AllBytes, starts, be16, be32, bytes16, bytes32, bits32, signed32}
 use Rattle.frames.specs.Frame.{mark, version, InRange, frameOf, bytesOf, wellFormed}
-use Rattle.frames.specs.Asked.{readChecks, readAsked, WriteOutcome, writeAsked}
+use Rattle.frames.specs.Asked.{readChecks, readAsked, WriteOutcome, writeOutcome, writeAsked}
 use Rattle.frames.specs.declared.Frame.{Frame}
-use Rattle.frames.specs.declared.Written.the-variants.{Refused}
+use Rattle.frames.specs.declared.Written.the-variants.{Done, Refused}
 use Rattle.paths.proofs.Verdicts.{accepted}
 use Rattle.frames.proofs.Numbers.{join16, join32, bytes-be16, bytes-be32, be16-low, be32-low, mark-bytes}
 use Rattle.frames.proofs.Twos.{bits-low, signed-fits, signed-bits, bits-signed}
-use Rattle.frames.proofs.Asking.{unrefused, Passed, passed-all, write-ill, write-done}
+use Rattle.frames.proofs.Asking.{unrefused, Passed, passed-all, write-long, write-ill, write-done}
 
 pub length-bytes : (f : Frame) → length (bytesOf f) ≡ 17
 unfolding bytesOf bytes16 bytes32
@@ -53,6 +55,18 @@ module _ (f : Frame) (r : InRange f) where
   reads-back w =
       answered _ _ (sym (unrefused (bytesOf f) (length-bytes f) true (sym marked) refl 1 (sym versioned) refl true (sym (ap wellFormed frame-bytes ∙ w)) refl))
       ∙ ap value frame-bytes
+
+  -- what `write` leaves where it is done reads back
+  pub written-reads : (buffer : List ℕ) → writeAsked f buffer .yields ≡ Done → readAsked (writeAsked f buffer .leaves) ≡ value f
+  written-reads buffer e = go (eqb (length buffer) 17) refl (wellFormed f) refl
+    where
+      not-done : {k : ℕ} → writeOutcome (Refused k) buffer ≡ writeAsked f buffer → ⊥
+      not-done q = let z : _≡_ {A = ℕ} 0 1 = cc (ap (λ (o : WriteOutcome). o .yields) q ∙ e) in omega arith
+
+      go : (a : Bool) → eqb (length buffer) 17 ≡ a → (w : Bool) → wellFormed f ≡ w → readAsked (writeAsked f buffer .leaves) ≡ value f
+      go true a true w = rw (← (write-done f buffer (eqb-true _ _ a) w)) (reads-back w)
+      go true a false w = absurd (not-done (write-ill f buffer (eqb-true _ _ a) w))
+      go false a w q = absurd (not-done (write-long f buffer (eqb-false _ _ a)))
 
 -- ---- from a frame to its record and back
 

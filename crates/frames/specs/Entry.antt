@@ -3,7 +3,6 @@ use Prim.Native.Nat.{ℕ}
 use mathlib.Core.Bool.{Bool, true, false, not, _&&_}
 use mathlib.Core.List.{List, [], _∷_, _++_}
 use lib.Dec.{eqb}
-use lib.IntN.{ℤ}
 use Rattle.words.specs.Rule.{omh}
 use Rattle.paths.specs.Refusal as refusal
 use Rattle.paths.specs.Checks.{Check, check, verdict}

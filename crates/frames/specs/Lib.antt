@@ -3,3 +3,4 @@ pub mod Ages
 pub mod Frame
 pub mod Asked
 pub mod Entry
+pub mod Run

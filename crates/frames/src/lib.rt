@@ -11,7 +11,7 @@ ghost use Rattle.paths.specs.Checks.{verdict};
 ghost use Rattle.frames.specs.Ages.{nextNumber, ageOf, classOf};
 ghost use Rattle.frames.specs.Frame.{frameOf, bytesOf, relayFormed, wellFormed};
 ghost use Rattle.book.specs.Asked.{bookOf, outcomeOf};
-ghost use Rattle.frames.specs.Entry.{frameSlot, timelyChecks, entryChecks, frameAsked};
+ghost use Rattle.frames.specs.Entry.{frameSlot, timelyChecks, frameChecks, frameAsked};
 ghost use Rattle.frames.specs.Asked.{parsedOf, readChecks, readAsked, writeOutcome, writeAsked};
 
 const MARK: [u8; 3] = *b"OMH";
@@ -223,23 +223,10 @@ fn untimely(t: usize, p: usize, current: u16, f: Frame) -> u8
     }
 }
 
-// The refusal number of a frame for a book, but for its slot; 0 for none.
-fn entry_refused(
-    n: usize,
-    m: usize,
-    t: usize,
-    p: usize,
-    words: &[i32],
-    votes: &[i32],
-    current: u16,
-    bytes: &[u8],
-) -> u8
-    ensures { λ r. ⌜ r ≡ verdict (entryChecks n m t p (bookOf (now (words .entry)) (now (votes .entry))) current (now (bytes .entry))) ⌝ }
+// The refusal number of a frame by itself, whatever the lists and the slot; 0 for none.
+fn frame_refused(t: usize, p: usize, current: u16, bytes: &[u8]) -> u8
+    ensures { λ r. ⌜ r ≡ verdict (frameChecks t p current (now (bytes .entry))) ⌝ }
 {
-    let no = book::book_refused(n, m, t, p, words, votes);
-    if no != 0 {
-        return no;
-    }
     let no = refused(bytes);
     if no != 0 {
         return no;
@@ -247,7 +234,7 @@ fn entry_refused(
     untimely(t, p, current, frame_of(bytes))
 }
 
-// Enters a frame in a book, where `current` is the exchange number.
+// Enters a frame in a book, where `current` is the exchange number. What refuses the book comes first; where the frame passes, the book's entering sees to it.
 pub fn enter(
     n: usize,
     m: usize,
@@ -260,8 +247,12 @@ pub fn enter(
 ) -> Done
     ensures { λ r. ⌜ outcomeOf r (now (words .exit)) (now (votes .exit)) ≡ frameAsked n m t p (bookOf (now (words .entry)) (now (votes .entry))) current (now (bytes .entry)) ⌝ }
 {
-    let no = entry_refused(n, m, t, p, words, votes, current, bytes);
+    let no = frame_refused(t, p, current, bytes);
     if no != 0 {
+        let first = book::book_refused(n, m, t, p, words, votes);
+        if first != 0 {
+            return Done::Refused(first);
+        }
         return Done::Refused(no);
     }
     let f = frame_of(bytes);

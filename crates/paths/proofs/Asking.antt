@@ -1,11 +1,11 @@
 -- What each question about settings and paths comes to, case by case.
 use Prim.Native.Nat.{ℕ, zero, suc, _+_, _*_, _≤_, _<_}
-use mathlib.Core.Path.{_≡_, refl, sym, ap, _∙_}
+use mathlib.Core.Path.{_≡_, refl, ap, _∙_}
 use mathlib.Core.Bool.{Bool, true, false, not, _&&_, _||_}
 use native.Mathlib.Omega.{arith}
 use lib.Dec.{T, eqb, ltb, leb}
 use borrow.Author.Tests.{lt-ltb, le-ltb, le-leb, lt-leb, eq-eqb, ne-eqb}
-use Rattle.paths.specs.Checks.{verdict, Answer, value, refused, answer}
+use Rattle.paths.specs.Checks.{verdict, value, refused, answer}
 use Rattle.paths.specs.Rack.{Rack, rack}
 use Rattle.paths.specs.Slots.{slotOf, above, level, relays, all, different, mayRelay, live}
 use Rattle.paths.specs.Asked.{used, slotAsked, aboveAsked}

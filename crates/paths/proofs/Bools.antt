@@ -9,10 +9,6 @@ pub T-eq : (b : Bool) → T b → b ≡ true
 T-eq true t = refl
 T-eq false t = absurd t
 
-pub T-not-eq : (b : Bool) → T (not b) → b ≡ false
-T-not-eq true t = absurd t
-T-not-eq false t = refl
-
 pub cond-yes : {A : Type 0} (b : Bool) (x y : A) → T b → cond b x y ≡ x
 cond-yes true x y t = refl
 cond-yes false x y t = absurd t
@@ -32,10 +28,6 @@ and-right false b t = absurd t
 pub and-both : (a b : Bool) → T a → T b → T (a && b)
 and-both true b s t = t
 and-both false b s t = absurd s
-
-pub or-left : (a b : Bool) → T a → T (a || b)
-or-left true b t = tt
-or-left false b t = absurd t
 
 pub or-right : (a b : Bool) → T b → T (a || b)
 or-right true b t = tt

@@ -1,12 +1,12 @@
 -- Laws of the numbering: levels, the slot below and above, and that slot and relays undo each other.
 use mathlib.Core.Path.{_≡_, refl, sym, _∙_, ap, ap₂}
-use Prim.Native.Nat.{ℕ, zero, suc, _+_, _*_, _-_, _/_, _%_, _≤_, _<_}
-use mathlib.Core.Bool.{Bool, true, false, cond}
+use Prim.Native.Nat.{ℕ, zero, suc, _+_, _*_, _≤_, _<_}
+use mathlib.Core.Bool.{Bool, true, false}
 use mathlib.Core.List.{List, [], _∷_}
 use native.Mathlib.Omega.{arith}
 use lib.Dec.{ltb, ltb→lt, lt→ltb, nltb→le}
 use lib.ListN.{length}
-use Rattle.paths.specs.Slots.{slots, below, slotOf, above, lastRelay, level, relaysBy, relays, wayBy, way}
+use Rattle.paths.specs.Slots.{below, slotOf, above, lastRelay, level, relaysBy, relays, wayBy, way}
 use Rattle.paths.proofs.Bools.{cond-yes, cond-no, le→nltb}
 
 -- ---- levels

@@ -1,14 +1,13 @@
 -- Laws of the live paths.
-use mathlib.Core.Path.{_≡_, refl, sym, _∙_, ap, subst}
-use mathlib.Core.Logic.{_↔_}
-use Prim.Native.Nat.{ℕ, zero, suc, _+_, _*_, _-_, _/_, _%_, _≤_, _<_}
-use mathlib.Core.Bool.{Bool, true, false, cond, not, _&&_, _||_}
-use mathlib.Core.List.{List, [], _∷_}
+use mathlib.Core.Path.{_≡_, refl, sym, _∙_, subst}
+use Prim.Native.Nat.{ℕ, suc, _≤_, _<_}
+use mathlib.Core.Bool.{Bool, true, false, not, _&&_, _||_}
+use mathlib.Core.List.{List, _∷_}
 use native.Mathlib.Omega.{arith}
 use lib.Dec.{T, ltb, leb, eqb, ltb→lt, lt→ltb, leb→le, le→leb, eqb→eq, eqb-refl, T-not, not-T}
-use Rattle.paths.specs.Rack.{Rack, rack}
-use Rattle.paths.specs.Slots.{slots, below, above, lastRelay, level, relaysBy, relays, all, noneOf, different, mayRelay, live, lengthens}
-use Rattle.paths.proofs.Bools.{T-eq, and-left, and-right, and-both, or-left, or-right, or-drop, iff-eq}
+use Rattle.paths.specs.Rack.{Rack}
+use Rattle.paths.specs.Slots.{below, above, lastRelay, level, relaysBy, relays, all, noneOf, different, mayRelay, live, lengthens}
+use Rattle.paths.proofs.Bools.{and-left, and-right, and-both, or-right, or-drop, iff-eq}
 use Rattle.paths.proofs.Levels.{level-above, level-below, pos-level, relays-cons, relays-below}
 
 module _ (S : Rack) (k : ℕ) (h : T (live S k)) where

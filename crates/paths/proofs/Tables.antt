@@ -1,16 +1,16 @@
 -- Laws of the tables that loops over cards and relays make.
-use Prim.Native.Nat.{ℕ, zero, suc, _+_, _≤_, _<_}
+use Prim.Native.Nat.{ℕ, zero, suc, _+_, _-_, _≤_, _<_}
 use mathlib.Core.Path.{_≡_, refl, sym, ap, _∙_}
 use mathlib.Core.Bool.{Bool, true, false, not, _&&_}
 use mathlib.Core.List.{List, [], _∷_}
 use native.Mathlib.Omega.{arith}
 use native.Mathlib.Decide.{ℕ-discrete}
 use lib.Dec.{ltb, eqb}
-use lib.ListN.{length, getD, set}
+use lib.ListN.{length, getD, set, length-set}
 use lib.Seq.{ext-getD, getD-set-same, getD-set-other}
-use borrow.Author.Tests.{lt-ltb, le-ltb, eq-eqb, ne-eqb}
-use Rattle.paths.specs.Rack.{Rack}
-use Rattle.paths.specs.Slots.{slots, lastRelay, above, relays, relaysBy, level, all, noneOf, mayRelay, table, lengthens, membersOf}
+use borrow.Author.Tests.{lt-ltb, le-ltb, ltb-true, ltb-false, eq-eqb, ne-eqb}
+use Rattle.paths.specs.Rack.{Rack, rack}
+use Rattle.paths.specs.Slots.{lastRelay, above, relays, relaysBy, level, all, noneOf, mayRelay, table, lengthens, membersOf}
 use Rattle.paths.proofs.Levels.{relays-cons}
 
 -- ---- tables
@@ -58,6 +58,51 @@ set-next f l i v d h before e j g = go (ℕ-discrete j i)
     go : Dec (j ≡ i) → getD (set l i v) j d ≡ f j
     go (yes q) = rw q (getD-set-same l i v d h ∙ e)
     go (no n) = getD-set-other l i j v d n ∙ before j (omega arith)
+
+-- ten that are and ten that are not: from place 10 - n on, whether each of the cards is below n
+abbrev ten : List Bool
+ten = true ∷ true ∷ true ∷ true ∷ true ∷ true ∷ true ∷ true ∷ true ∷ true ∷ false ∷ false ∷ false ∷ false ∷ false ∷ false ∷ false ∷ false ∷ false ∷ false ∷ []
+
+pub fitted-at : (n q from : ℕ) → from ≡ 10 - n → q < 10 → getD ten (from + q) false ≡ ltb q n
+fitted-at n q from e h = (ap (λ (l : List Bool). getD l (from + q) false) all ∙ at-table 20 0 (λ i. ltb i 10) (from + q) false (omega arith)) ∙ go (ltb q n) refl
+  where
+    all : ten ≡ table 20 0 (λ i. ltb i 10)
+    all = unfold table in refl
+
+    go : (b : Bool) → ltb q n ≡ b → ltb (0 + (from + q)) 10 ≡ ltb q n
+    go true t = lt-ltb (0 + (from + q)) 10 (omega (arith, ltb-true q n t)) ∙ sym t
+    go false t = le-ltb (0 + (from + q)) 10 (omega (arith, ltb-false q n t)) ∙ sym t
+
+-- a card taken out
+at-barred : (l : List Bool) (q i : ℕ) → i < length l → getD (set l q false) i false ≡ (getD l i false && not (eqb i q))
+at-barred l q i h = go (ℕ-discrete i q)
+  where
+    none : (b : Bool) → false ≡ (b && false)
+    none true = refl
+    none false = refl
+
+    stays : (b : Bool) → b ≡ (b && true)
+    stays true = refl
+    stays false = refl
+
+    go : Dec (i ≡ q) → getD (set l q false) i false ≡ (getD l i false && not (eqb i q))
+    go (yes e) = rw (eq-eqb i q e) (ap (λ (j : ℕ). getD (set l j false) i false) (sym e) ∙ getD-set-same l i false false h ∙ none (getD l i false))
+    go (no n) = rw (ne-eqb i q n) (getD-set-other l q i false false n ∙ stays (getD l i false))
+
+-- the fitted cards, less the sender and the own card, may relay
+pub may-table : (n m t p : ℕ) {l : List Bool} → l ≡ table 10 0 (λ q. ltb q n) → set (set l t false) p false ≡ table 10 0 (mayRelay (rack n m t p))
+unfolding mayRelay
+may-table n m t p {l} same =
+    let e : length l ≡ 10 = ap length same ∙ length-table 10 0 (λ q. ltb q n) in
+    let h : (i : ℕ) → i < 10 → getD l i false ≡ ltb i n = λ i g. ap (λ (k : List Bool). getD k i false) same ∙ at-table 10 0 (λ q. ltb q n) i false g ∙ ap (λ (j : ℕ). ltb j n) (omega arith) in
+    is-table 10 _ false _ (length-set (set l t false) p false ∙ length-set l t false ∙ e)
+    (λ i g. at-barred (set l t false) p i (omega (arith, length-set l t false))
+    ∙ ap (λ (b : Bool). b && not (eqb i p)) (at-barred l t i (omega arith) ∙ ap (λ (b : Bool). b && not (eqb i t)) (h i g))
+    ∙ join (ltb i n) (not (eqb i t)) (not (eqb i p)))
+  where
+    join : (a b c : Bool) → ((a && b) && c) ≡ (a && (b && c))
+    join true b c = refl
+    join false b c = refl
 
 -- a relay taken out: what is left of the members goes by the rest of the path
 pub out-next : (found : List Bool) (k : ℕ) → length found ≡ 10 → k < 1111 → 0 < k → (q : ℕ) → q < 10 → (getD (set found (lastRelay k) false) q false && noneOf q (relays (above k))) ≡ (getD found q false && noneOf q (relays k))

@@ -1,12 +1,12 @@
 -- Laws of checks in order, and of answers by their verdict. What settings that are not refused keep.
 use Prim.Native.Nat.{ℕ, zero, suc, _≤_, _<_}
-use mathlib.Core.Path.{_≡_, refl, sym, _∙_}
+use mathlib.Core.Path.{_≡_, refl, sym, ap, _∙_}
 use mathlib.Core.Bool.{Bool, true, false, cond, _&&_, _||_}
 use mathlib.Core.List.{List, [], _∷_, _++_}
 use native.Mathlib.Omega.{arith}
 use lib.Dec.{T, eqb, ltb, leb, ltb→lt}
 use borrow.Author.Tests.{eqb-false, ltb-false, leb-false}
-use Rattle.paths.specs.Checks.{Check, check, verdict, Answer, value, refused, answer, after}
+use Rattle.paths.specs.Checks.{Check, check, verdict, value, refused, answer, after}
 use Rattle.paths.specs.Rack.{roundsChecks, settingsChecks}
 use Rattle.paths.proofs.Bools.{and-left, and-right}
 
@@ -120,6 +120,19 @@ module _ (cs : List Check) (n : T (numbered cs)) where
   -- none on the first list, and one check more does not apply
   pub passed-both : (k : ℕ) (b : Bool) → verdict (cs ++ check (suc k) b ∷ []) ≡ 0 → (verdict cs ≡ 0) × (b ≡ false)
   passed-both k b e = let both = passed-lists (check (suc k) b ∷ []) e in (both .0, passed k b [] (both .1) .0)
+
+-- two lists with the same verdict are as good before a third
+pub same-first : (cs ds es : List Check) → T (numbered cs) → T (numbered ds) → verdict cs ≡ verdict ds → verdict (cs ++ es) ≡ verdict (ds ++ es)
+same-first cs ds es n m e = verdict-append cs es n ∙ ap (λ (v : ℕ). next v (verdict es)) e ∙ sym (verdict-append ds es m)
+
+-- none on the second list: the first decides
+pub first-decides : (cs ds : List Check) → T (numbered cs) → verdict ds ≡ 0 → verdict (cs ++ ds) ≡ verdict cs
+unfolding next
+first-decides cs ds n e = verdict-append cs ds n ∙ rw e (go (verdict cs))
+  where
+    go : (v : ℕ) → next v 0 ≡ v
+    go zero = refl
+    go (suc v) = refl
 
 -- settings that are not refused
 pub record Good (n m t p : ℕ) : Type 0 where

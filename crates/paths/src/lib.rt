@@ -2,12 +2,38 @@
 pub mod refusal;
 
 ghost use mathlib.Core.Path.{_≡_};
-ghost use mathlib.Core.Bool.{not, _&&_};
+ghost use mathlib.Core.Bool.{false, not, _&&_};
 ghost use Prim.Native.Nat.{_<_};
+ghost use lib.Dec.{ltb};
+ghost use lib.ListN.{length, set};
 ghost use Rattle.paths.specs.Checks.{verdict};
 ghost use Rattle.paths.specs.Rack.{rackOf, roundsChecks, senderChecks, settingsChecks};
 ghost use Rattle.paths.specs.Slots.{slots, level, relays, noneOf, all, different, mayRelay, live, table, membersOf};
 ghost use Rattle.paths.specs.Asked.{checkedOf, placeOf, livenessOf, settingsAsked, slotAsked, aboveAsked, liveAsked};
+
+// Ten cards that are fitted, then ten that are not.
+const TEN: [bool; 20] = [
+    true,
+    true,
+    true,
+    true,
+    true,
+    true,
+    true,
+    true,
+    true,
+    true,
+    false,
+    false,
+    false,
+    false,
+    false,
+    false,
+    false,
+    false,
+    false,
+    false,
+];
 
 // n cards, m rounds of relay, the sender t and the own card p.
 pub struct Settings {
@@ -218,14 +244,35 @@ fn is_relay(slot: usize, q: usize) -> bool
     false
 }
 
+// Takes card q out of the ten; a number over 9 is none of them.
+fn bar(found: &mut [bool; 10], q: usize)
+    requires { ⌜ length (now found) ≡ 10 ⌝ }
+    ensures { λ r. ⌜ now (found .exit) ≡ set (now (found .entry)) q false ⌝ }
+{
+    if q < 10 {
+        found[q] = false;
+    }
+}
+
+// Which of the ten cards are fitted: the ten places from 10 - n on of ten that are and ten that are not.
+fn fitted(n: usize) -> [bool; 10]
+    ensures { λ r. ⌜ r ≡ table 10 0 (λ q. ltb q n) ⌝ }
+{
+    let from = if n < 10 { 10 - n } else { 0 };
+    let mut found = [false; 10];
+    for q in 0..10 {
+        found[q] = TEN[from + q];
+    }
+    found
+}
+
 // Which of the ten cards may relay.
 fn may_relays(s: Settings) -> [bool; 10]
     ensures { λ r. ⌜ r ≡ table 10 0 (mayRelay (rackOf s)) ⌝ }
 {
-    let mut found = [false; 10];
-    for q in 0..10 {
-        found[q] = may_relay(s, q);
-    }
+    let mut found = fitted(s.n);
+    bar(&mut found, s.t);
+    bar(&mut found, s.p);
     found
 }
 

@@ -1,6 +1,6 @@
 -- A file longer than any that is not refused: its first 473 bytes give the same text.
 use Prim.Native.Nat.{ℕ, _+_, _*_, _≤_, _<_}
-use mathlib.Core.Path.{_≡_, refl, sym, ap, ap₂, _∙_}
+use mathlib.Core.Path.{_≡_, refl, sym, _∙_}
 use mathlib.Core.Bool.{Bool, true, false, not}
 use mathlib.Core.List.{List, [], _∷_}
 use native.Mathlib.Omega.{arith}
@@ -12,7 +12,7 @@ use Rattle.paths.specs.Refusal as refusal
 use Rattle.paths.specs.Checks.{Check, check, verdict}
 use Rattle.paths.proofs.Verdicts.{still-refused}
 use Rattle.frames.specs.Bytes.{byte, starts, be16}
-use Rattle.trials.specs.File.{mark, version, exceptions, shapeChecks, fileChecks}
+use Rattle.trials.specs.File.{mark, version, exceptions, shapeChecks}
 use Rattle.trials.specs.Listing.{refusedLine, textOf}
 use Rattle.trials.proofs.Text.{refused-text}
 

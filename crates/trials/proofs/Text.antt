@@ -1,8 +1,8 @@
 -- The text of a file: its card lines from all answers, and the whole as it is stored.
-use Prim.Native.Nat.{ℕ, zero, _+_, _*_, _≤_, _<_}
-use mathlib.Core.Path.{_≡_, refl, sym, ap, _∙_}
+use Prim.Native.Nat.{ℕ, _≤_, _<_}
+use mathlib.Core.Path.{_≡_, sym, ap, _∙_}
 use mathlib.Core.Bool.{Bool, cond}
-use mathlib.Core.List.{List, [], _∷_, _++_}
+use mathlib.Core.List.{List, _++_}
 use native.Mathlib.Nat.{zero-add}
 use native.Mathlib.Omega.{arith}
 use borrow.Author.Tests.{lt-ltb}
@@ -22,7 +22,7 @@ use Rattle.bench.specs.Bound.{bounded}
 use Rattle.trials.specs.File.{cards, statuses, exchangeOf, fileChecks}
 use Rattle.trials.specs.Listing.{ending, lineOf, lines, boundLine, refusedLine, cardLine, printed, textOf}
 use Rattle.trials.specs.Storing.{Stored}
-use Rattle.trials.proofs.Lines.{length-line, length-lines, lines-same, length-bound}
+use Rattle.trials.proofs.Lines.{length-line, length-lines, lines-same}
 
 module _ (file : List ℕ) where
   -- ---- the lines of the cards

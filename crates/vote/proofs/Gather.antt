@@ -1,12 +1,12 @@
 -- Laws of the loop over the members: one card more, and the cards put back as they were.
-use Prim.Native.Nat.{ℕ, zero, suc, _+_, _-_, _*_, _≤_, _<_}
+use Prim.Native.Nat.{ℕ, zero, suc, _+_, _-_, _≤_, _<_}
 use mathlib.Core.Path.{_≡_, refl, sym, ap, _∙_, subst}
 use mathlib.Core.Bool.{Bool, true, false, cond}
 use mathlib.Core.List.{List, [], _∷_, _++_, append-nil}
 use native.Mathlib.Numerals.{add-one, sub-one}
 use native.Mathlib.Omega.{arith}
-use lib.IntN.{ℤ, pos}
-use lib.ListN.{length, getD, set, take, length-append, length-take, length-set}
+use lib.IntN.{ℤ}
+use lib.ListN.{length, set, take, length-append, length-take, length-set}
 use lib.Seq.{set-set, set-getD, take-suc-set}
 use Rattle.words.specs.Rule.{Rule, majorityBy}
 use Rattle.paths.specs.Slots.{below}

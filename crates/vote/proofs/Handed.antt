@@ -1,12 +1,12 @@
 -- The vote with its members handed down is the vote.
-use Prim.Native.Nat.{ℕ, zero, suc, _+_, _-_, _*_, _≤_, _<_}
-use mathlib.Core.Path.{_≡_, refl, sym, ap, ap₂, _∙_, subst}
+use Prim.Native.Nat.{ℕ, zero, suc, _+_, _-_, _≤_, _<_}
+use mathlib.Core.Path.{_≡_, refl, sym, ap, _∙_, subst}
 use mathlib.Core.Bool.{Bool, true, false, cond, not, _&&_, _||_}
-use mathlib.Core.List.{List, [], _∷_}
+use mathlib.Core.List.{List}
 use native.Mathlib.Numerals.{add-one}
 use native.Mathlib.Omega.{arith}
 use native.Mathlib.Decide.{ℕ-discrete}
-use lib.Dec.{T, ltb, eqb}
+use lib.Dec.{T, eqb}
 use lib.IntN.{ℤ}
 use lib.ListN.{length, set, length-set}
 use lib.Seq.{getD-set-same, getD-set-other}
@@ -14,12 +14,11 @@ use borrow.Author.Tests.{lt-ltb, eq-eqb, ne-eqb}
 use Rattle.words.specs.Rule.{Rule}
 use Rattle.paths.specs.Rack.{Rack}
 use Rattle.paths.specs.Slots.{below, level, relays, noneOf, all, mayRelay, live, lengthens, membersOf}
-use Rattle.paths.proofs.Bools.{T-eq, le→nltb, and-right}
 use Rattle.paths.proofs.Levels.{by-level, level-below, level-small, relays-below}
 use Rattle.paths.proofs.Live.{live-slot, live-level, live-below, apart-of}
 use Rattle.paths.proofs.Tables.{at-table, length-table}
 use Rattle.vote.proofs.Over.{over-cong}
-use Rattle.vote.specs.Vote.{at, over, longer, reading, decided, voteFrom, voteIn, vote}
+use Rattle.vote.specs.Vote.{longer, reading, decided, voteFrom, voteIn, vote}
 use Rattle.vote.specs.Members.{may, memberVote, room}
 
 -- ---- document 01's two cases
@@ -67,7 +66,7 @@ module _ (S : Rack) (k q r : ℕ) (h : k < 111) (g : q < 10) where
   unfolding lengthens
   lengthens-other n = lengthens-below ∙ rw (ne-eqb r q n, lt-ltb k 1111 (omega arith))
 
-handed-below : (S : Rack) (members : List Bool) (k q : ℕ) → length members ≡ 10 → k < 111 → q < 10 → Handed S members k → Handed S (set members q false) (below k q)
+pub handed-below : (S : Rack) (members : List Bool) (k q : ℕ) → length members ≡ 10 → k < 111 → q < 10 → Handed S members k → Handed S (set members q false) (below k q)
 handed-below S members k q e h g m r l = go (ℕ-discrete r q)
   where
     go : Dec (r ≡ q) → may (set members q false) r ≡ lengthens S (below k q) r

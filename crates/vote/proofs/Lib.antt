@@ -5,4 +5,5 @@ pub mod Votes
 pub mod Gather
 pub mod Handed
 pub mod Asking
+pub mod OnlyLive
 pub mod Fixed

@@ -2,7 +2,7 @@
 use Prim.Native.Nat.{ℕ, zero, suc, _+_, _≤_, _<_}
 use mathlib.Core.Path.{_≡_, refl, ap₂}
 use mathlib.Core.Bool.{Bool, true, false, cond}
-use mathlib.Core.List.{List, [], _∷_}
+use mathlib.Core.List.{List, _∷_}
 use native.Mathlib.Omega.{arith}
 use lib.Dec.{T}
 use lib.IntN.{ℤ}
@@ -19,20 +19,6 @@ abbrev pub Each : (ℕ → Bool) → ℕ → ℕ → (ℕ → Type 0) → Type 0
 Each passes c q P = (x : ℕ) → q ≤ x → x < q + c → T (passes x) → P x
 
 module _ (passes : ℕ → Bool) where
-  -- ---- the first card
-
-  -- it passes
-  pub over-yes : (f : ℕ → ℤ) (c q : ℕ) → passes q ≡ true → over passes f (suc c) q ≡ f q ∷ over passes f c (suc q)
-  unfolding over
-  over-yes f c q e = rw e
-
-  -- it does not pass
-  pub over-no : (f : ℕ → ℤ) (c q : ℕ) → passes q ≡ false → over passes f (suc c) q ≡ over passes f c (suc q)
-  unfolding over
-  over-no f c q e = rw e
-
-  -- ---- all cards
-
   -- what holds of them holds of those after the first
   rest : (P : ℕ → Type 0) (c q : ℕ) → Each passes (suc c) q P → Each passes c (suc q) P
   rest P c q h x a b = h x (omega arith) (omega arith)
@@ -52,13 +38,6 @@ module _ (passes : ℕ → Bool) where
   over-all P f (suc c) q h =
       let ih = over-all P f c (suc q) (rest _ c q h) in
       cond-case (All P) (passes q) _ _ (λ t. (h q (omega arith) (omega arith) t, ih)) (λ t. ih)
-
-  -- where no card passes there is nothing
-  pub over-none : (f : ℕ → ℤ) (c q : ℕ) → Each passes c q (λ x. ⊥) → over passes f c q ≡ []
-  unfolding over
-  over-none f zero q h = refl
-  over-none f (suc c) q h =
-      cond-case (λ l. l ≡ []) (passes q) _ _ (λ t. absurd (h q (omega arith) (omega arith) t)) (λ t. over-none f c (suc q) (rest _ c q h))
 
 -- two tests and two functions that are equal where they matter
 pub over-cong : (p p′ : ℕ → Bool) (f f′ : ℕ → ℤ) (c s : ℕ) → ((q : ℕ) → q < s + c → p q ≡ p′ q) → ((q : ℕ) → q < s + c → T (p q) → f q ≡ f′ q) → over p f c s ≡ over p′ f′ c s

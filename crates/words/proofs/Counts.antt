@@ -1,15 +1,14 @@
 -- Laws of the majority, over any struck words and any word for none: it is the one word with more than half of what is left, and goes by the counts alone.
-use Prim.Native.Nat.{ℕ, zero, suc, _+_, _*_, _≤_, _<_}
-use mathlib.Core.Path.{_≡_, refl, sym, ap, _∙_, subst}
+use Prim.Native.Nat.{ℕ, suc, _+_, _*_, _≤_, _<_}
+use mathlib.Core.Path.{_≡_, refl, sym, ap, _∙_}
 use mathlib.Core.Bool.{Bool, true, false, cond}
 use mathlib.Core.List.{List, [], _∷_}
-use mathlib.Core.Logic.{_⊎_, inl, inr}
 use native.Mathlib.Omega.{arith}
 use lib.IntN.{ℤ}
 use lib.ListN.{length}
 use borrow.Author.Tests.{ltb-true, lt-ltb}
 use Rattle.words.specs.Majority.{same, kept, occurs, overHalf, first, majority}
-use Rattle.words.proofs.Same.{same-eq, same-refl, eq-same, same-ne, ne-same}
+use Rattle.words.proofs.Same.{same-eq, same-refl, same-ne, ne-same}
 
 -- ---- at most one word has more than half
 

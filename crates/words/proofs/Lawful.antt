@@ -1,13 +1,12 @@
 -- What a rule must keep for the laws of the vote, the book and the exchange; document 01's rule keeps it.
-use Prim.Native.Nat.{ℕ, suc, _≤_, _<_}
+use Prim.Native.Nat.{ℕ, suc, _≤_}
 use mathlib.Core.Path.{_≡_, refl, sym}
 use mathlib.Core.Bool.{false}
-use native.Mathlib.Omega.{arith}
 use lib.IntN.{ℤ}
 use Rattle.words.specs.Word.{kindOf, E, unwrapped}
 use Rattle.words.specs.Rule.{Rule, omh}
 use Rattle.words.proofs.Same.{ne-same}
-use Rattle.words.proofs.Reading.{read-E, read-read, reads, itself, is-read, wrap-reads, unwrap-reads, unwrap-wrap, wrap-not-E}
+use Rattle.words.proofs.Reading.{read-E, read-read, itself, is-read, wrap-reads, unwrap-reads, unwrap-wrap, wrap-not-E}
 
 pub record Lawful (R : Rule) : Type 0 where
   -- a reading reads as itself

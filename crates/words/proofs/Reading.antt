@@ -1,5 +1,5 @@
 -- Laws of reading at a level, wrapping and unwrapping, and of the vote that they make.
-use Prim.Native.Nat.{ℕ, zero, suc, _+_, _-_, _≤_, _<_}
+use Prim.Native.Nat.{ℕ, suc, _+_, _-_, _≤_, _<_}
 use mathlib.Core.Path.{_≡_, refl, sym, subst, ap, _∙_}
 use mathlib.Core.Bool.{Bool, true, false}
 use mathlib.Core.List.{List}
@@ -7,11 +7,11 @@ use mathlib.Core.Logic.{_⊎_, inl, inr}
 use native.Mathlib.Omega.{arith}
 use borrow.Author.Tests.{leb-true, leb-false, ltb-true, ltb-false, le-leb, lt-leb, lt-ltb}
 use lib.Dec.{leb, ltb}
-use lib.IntN.{ℤ, pos, natAbs}
+use lib.IntN.{ℤ, natAbs}
 use Rattle.words.specs.Word.{kindOf, missing, E, readAt, wrapped, unwrapped}
 use Rattle.words.specs.Majority.{same}
 use Rattle.words.specs.Rule.{omh, majorityBy}
-use Rattle.words.specs.declared.Kind.the-variants.{Ordinary, Missing, Bad}
+use Rattle.words.specs.declared.Kind.the-variants.{Ordinary, Bad}
 use Rattle.words.proofs.ByKind.{kind-missing, View, ordinary, wraps, bad, view, ordinary-not}
 use Rattle.words.proofs.Counts.{All, majority-all}
 

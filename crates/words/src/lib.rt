@@ -67,10 +67,10 @@ fn is_struck(word: i32) -> bool
 fn kept_len(list: &[i32]) -> usize
     ensures { λ r. ⌜ r ≡ length (kept (omh .struck) (now (list .entry))) ⌝ }
 {
-    let mut n: usize = 0;
+    let mut n = list.len();
     for i in 0..list.len() {
-        if !is_struck(list[i]) {
-            n += 1;
+        if is_struck(list[i]) {
+            n -= 1;
         }
     }
     n

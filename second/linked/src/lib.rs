@@ -4,17 +4,30 @@
 //! `ffi` is the library and `random` the numbers behind every input. The modules named
 //! after a part of document 01 make that part's inputs, good and bad, and compare one call
 //! at a time. A comparison yields 0 or the refusal's number, for a `Tally`.
+//!
+//! `soak` and `calls` are behind the program soak; `patterns`, `tables`, `trial`, `coverage`,
+//! `picture` and `drawing` behind the program coverage.
 
 pub mod bench;
 pub mod book;
+pub mod calls;
+pub mod coverage;
+pub mod drawing;
 pub mod ffi;
 pub mod frames;
 pub mod lent;
 pub mod listing;
+pub mod options;
+pub mod patterns;
+pub mod picture;
+pub mod progress;
 pub mod random;
 pub mod runs;
 pub mod settings;
+pub mod soak;
+pub mod tables;
 pub mod tally;
+pub mod trial;
 pub mod vote;
 pub mod words;
 

@@ -1,13 +1,19 @@
-//! The numbers behind every input. They are the same in every run, unless the environment
-//! variable SEED holds another number to start from.
+//! The numbers behind every input. They are the same in every run, unless a program asks
+//! for another number to start from, or the environment variable SEED holds one.
 
 use std::env;
 use std::sync::OnceLock;
 
 const USUAL_SEED: u64 = 1;
 
+static SEED: OnceLock<u64> = OnceLock::new();
+
+/// Fixes the seed, before the first input is made; a seed that is fixed already stays.
+pub fn start_from(seed: u64) {
+    SEED.get_or_init(|| seed);
+}
+
 pub fn seed() -> u64 {
-    static SEED: OnceLock<u64> = OnceLock::new();
     *SEED.get_or_init(|| match env::var("SEED") {
         Ok(text) => text.parse().expect("SEED is a decimal number of 64 bits"),
         Err(_) => USUAL_SEED,

@@ -9,6 +9,10 @@ impl Tally {
         self.0[usize::from(number)] += 1;
     }
 
+    pub fn times(&self, number: u8) -> u64 {
+        self.0[usize::from(number)]
+    }
+
     pub fn total(&self) -> u64 {
         self.0.iter().sum()
     }

@@ -1,5 +1,5 @@
 -- `book::book_refused` meets its contract: the settings' verdict, then the lists' length.
-use mathlib.Core.Path.{_≡_, sym, ap, _∙_}
+use mathlib.Core.Path.{sym, ap, _∙_}
 use mathlib.Core.Bool.{not}
 use borrow.Author.Needs.{needs}
 use Rattle.paths.specs.Rack.{settingsChecks}

@@ -1,9 +1,9 @@
 -- `book::open` meets its contract: the verdict decides, and every word and vote is cleared.
 use Prim.Native.Nat.{ℕ}
-use mathlib.Core.Path.{_≡_, sym, ap, ap₂, _∙_}
+use mathlib.Core.Path.{sym, ap, ap₂, _∙_}
 use borrow.Author.Needs.{needs}
 use denote.Ref.{now}
-use lib.ListN.{length, replicate}
+use lib.ListN.{replicate}
 use Rattle.words.specs.Word.{E}
 use Rattle.book.specs.Book.{opened}
 use Rattle.book.specs.Asked.{bookOf}

@@ -7,7 +7,7 @@ use Rattle.paths.specs.Checks.{Answer}
 use Rattle.bench.specs.Asked.{boundAsked}
 use Rattle.bench.specs.declared.Bounded.{Bounded}
 use Rattle.omh.specs.Numbers.{placedAs, bit}
-use Rattle.omh.proofs.Placed.{Carries, placed-by, by-bounded}
+use Rattle.omh.proofs.Placed.{placed-by, by-bounded}
 use Rattle.omh.proofs.omh_bound.Statement.{statement}
 use Rattle.omh.proofs.omh_bound.Tie as tie
 

@@ -8,7 +8,7 @@ use Rattle.paths.specs.Checks.{Answer}
 use Rattle.book.specs.Asked.{bookOf, heldAsked}
 use Rattle.book.specs.declared.Held.{Held}
 use Rattle.omh.specs.Numbers.{given, placed}
-use Rattle.omh.proofs.Placed.{Carries, placed-by, by-held}
+use Rattle.omh.proofs.Placed.{placed-by, by-held}
 use Rattle.omh.proofs.omh_held_answer.Statement.{statement}
 use Rattle.omh.proofs.omh_held_answer.Tie as tie
 

@@ -7,7 +7,7 @@ use Rattle.frames.specs.Asked.{readAsked}
 use Rattle.frames.specs.declared.Frame.{Frame}
 use Rattle.frames.specs.declared.Parsed.{Parsed}
 use Rattle.omh.specs.Numbers.{given, placedAs, fieldsOf}
-use Rattle.omh.proofs.Placed.{Carries, placed-by, by-parsed}
+use Rattle.omh.proofs.Placed.{placed-by, by-parsed}
 use Rattle.omh.proofs.omh_read_frame.Statement.{statement}
 use Rattle.omh.proofs.omh_read_frame.Tie as tie
 

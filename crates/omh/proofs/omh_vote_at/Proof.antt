@@ -8,7 +8,7 @@ use Rattle.paths.specs.Checks.{Answer}
 use Rattle.vote.specs.Asked.{voteAsked}
 use Rattle.vote.specs.declared.Voted.{Voted}
 use Rattle.omh.specs.Numbers.{given, placed}
-use Rattle.omh.proofs.Placed.{Carries, placed-by, by-voted}
+use Rattle.omh.proofs.Placed.{placed-by, by-voted}
 use Rattle.omh.proofs.omh_vote_at.Statement.{statement}
 use Rattle.omh.proofs.omh_vote_at.Tie as tie
 

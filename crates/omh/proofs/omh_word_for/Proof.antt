@@ -8,7 +8,7 @@ use Rattle.paths.specs.Checks.{Answer}
 use Rattle.bench.specs.Asked.{wordAsked}
 use Rattle.bench.specs.declared.Told.{Told}
 use Rattle.omh.specs.Numbers.{given, placed}
-use Rattle.omh.proofs.Placed.{Carries, placed-by, by-told}
+use Rattle.omh.proofs.Placed.{placed-by, by-told}
 use Rattle.omh.proofs.omh_word_for.Statement.{statement}
 use Rattle.omh.proofs.omh_word_for.Tie as tie
 

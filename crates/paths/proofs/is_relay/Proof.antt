@@ -1,7 +1,6 @@
 -- `paths::is_relay` meets its contract: no relay passed is q, so it is among the relays of k if it is one at all.
-use Prim.Native.Nat.{ℕ, _<_, _≤_}
-use mathlib.Core.Path.{_≡_, refl, sym, ap, _∙_}
-use mathlib.Core.Bool.{true, false}
+use Prim.Native.Nat.{_<_}
+use mathlib.Core.Path.{_≡_, refl, sym, _∙_}
 use native.Mathlib.Omega.{arith}
 use Rattle.paths.specs.Slots.{relays, noneOf}
 use Rattle.paths.proofs.Tables.{none-here, none-next, none-zero}

@@ -1,5 +1,4 @@
 -- `paths::level_of` meets its contract: each range of slots has its level.
-use Prim.Native.Nat.{ℕ, _<_, _≤_}
 use mathlib.Core.Path.{_≡_, sym}
 use native.Mathlib.Omega.{arith}
 use Rattle.paths.proofs.Levels.{level-0, level-1, level-2, level-3, level-4}

@@ -1,13 +1,12 @@
 -- `paths::members` meets its contract: a card is a member if it is left so far and is none of the relays still to be taken out.
-use Prim.Native.Nat.{ℕ, _<_, _≤_, _-_}
-use mathlib.Core.Path.{_≡_, refl, sym, ap, _∙_}
+use Prim.Native.Nat.{ℕ, _<_}
+use mathlib.Core.Path.{_≡_, refl, ap, _∙_}
 use mathlib.Core.Bool.{Bool, false, _&&_}
 use mathlib.Core.List.{List}
 use native.Mathlib.Omega.{arith}
 use borrow.Author.Needs.{needs}
 use lib.ListN.{length, getD, length-set}
-use Rattle.paths.specs.Rack.{rackOf}
-use Rattle.paths.specs.Slots.{noneOf, relays, lengthens}
+use Rattle.paths.specs.Slots.{noneOf, relays}
 use Rattle.paths.proofs.Tables.{length-table, is-table, out-first, out-next, out-last, no-members}
 use Rattle.paths.proofs.members.Statement.{statement}
 use Rattle.paths.proofs.members.Tie as tie

@@ -1,6 +1,5 @@
 -- `paths::slot_of` meets its contract: each return is a case of `slotAsked`.
-use Prim.Native.Nat.{ℕ, _<_}
-use mathlib.Core.Path.{_≡_, sym, ap}
+use mathlib.Core.Path.{sym, ap}
 use native.Mathlib.Omega.{arith}
 use Rattle.paths.specs.Asked.{placeOf}
 use Rattle.paths.proofs.Asking.{slot-deep, over-1, over-2, over-3, at-0, at-1, at-2, at-3}

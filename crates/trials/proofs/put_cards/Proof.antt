@@ -1,16 +1,16 @@
 -- `trials::put_cards` meets its contract: the words told, all answers over them, and a line to each.
 use Prim.Native.Nat.{_≤_}
-use mathlib.Core.Path.{_≡_, ap, _∙_}
+use mathlib.Core.Path.{_≡_, ap}
 use native.Mathlib.Omega.{arith}
 use borrow.Author.Needs.{needs}
 use denote.Ref.{now}
-use lib.ListN.{length, replicate, length-replicate}
+use lib.ListN.{replicate, length-replicate}
 use Rattle.words.specs.Word.{E}
 use Rattle.words.specs.Rule.{omh}
 use Rattle.bench.specs.Exchange.{answersOf}
 use Rattle.trials.specs.File.{allMissing, exchangeOf}
 use Rattle.trials.specs.declared.file.Head.{Head}
-use Rattle.trials.proofs.Asking.{Accepted, accepted, ten-statuses, answers-are}
+use Rattle.trials.proofs.Asking.{accepted, ten-statuses, answers-are}
 use Rattle.trials.proofs.Storing.{renamed}
 use Rattle.trials.proofs.Text.{ten-answers, card-lines}
 use Rattle.trials.proofs.put_cards.Statement.{statement}

@@ -4,10 +4,9 @@ use mathlib.Core.Path.{_≡_, ap}
 use mathlib.Core.List.{List}
 use native.Mathlib.Numerals.{add-one}
 use native.Mathlib.Omega.{arith}
-use borrow.Author.Needs.{needs}
 use denote.Ref.{now}
 use lib.IntN.{ℤ}
-use lib.ListN.{length, getD}
+use lib.ListN.{getD}
 use Rattle.words.proofs.Bits.{back, back-is}
 use Rattle.vote.specs.Vote.{at as wordAt}
 use Rattle.trials.specs.Listing.{lineOf, lines}

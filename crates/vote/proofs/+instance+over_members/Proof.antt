@@ -1,15 +1,14 @@
 -- `vote::instance` and `vote::over_members`, which call each other, meet their contracts. The measure is the rounds left: over the members it is as before, and one more.
-use Prim.Native.Nat.{ℕ, _+_, _-_, _*_, _≤_, _<_}
+use Prim.Native.Nat.{ℕ, _+_, _-_, _*_, _<_}
 use mathlib.Core.Path.{_≡_, refl, sym, ap, _∙_}
 use mathlib.Core.Bool.{Bool, false}
-use mathlib.Core.List.{List, _∷_}
+use mathlib.Core.List.{List}
 use mathlib.Core.Logic.{⊎-elim}
 use native.Mathlib.Omega.{arith}
 use borrow.Author.Needs.{needs, sfits-of}
 use borrow.Fn.Kinds.{In}
 use borrow.Fn.PlainCycle.{Measures, is, falls, and}
 use denote.Ref.{now}
-use lib.IntN.{ℤ}
 use lib.ListN.{length, length-set, set}
 use lib.Seq.{length-take-le}
 use Rattle.words.specs.Rule.{omh}

@@ -1,7 +1,6 @@
 -- `vote::answer` meets its contract: the verdict decides, and none tells what the vote is asked.
-use mathlib.Core.Path.{_≡_, sym, ap, _∙_}
+use mathlib.Core.Path.{sym, ap, _∙_}
 use borrow.Author.Needs.{needs, sfits-of}
-use denote.Ref.{now}
 use Rattle.words.proofs.Bits.{back-is}
 use Rattle.paths.specs.Rack.{settingsChecks}
 use Rattle.paths.proofs.Verdicts.{answered, answer-refused, passed-both, settings-good}

@@ -1,5 +1,5 @@
 -- `vote::slot_refused` meets its contract: the verdict on the words, then the slot.
-use mathlib.Core.Path.{_≡_, sym, ap, _∙_}
+use mathlib.Core.Path.{sym, ap, _∙_}
 use mathlib.Core.Bool.{not}
 use borrow.Author.Needs.{needs}
 use denote.Ref.{now}

@@ -1,5 +1,5 @@
 -- `vote::vote_at` meets its contract: the verdict decides, and none tells what the vote is asked.
-use mathlib.Core.Path.{_≡_, sym, ap, _∙_}
+use mathlib.Core.Path.{sym, ap, _∙_}
 use borrow.Author.Needs.{needs, sfits-of}
 use denote.Ref.{now}
 use Rattle.words.proofs.Bits.{back-is}

@@ -1,6 +1,6 @@
 -- `vote::vote_of` meets its contract: where p is t the reading, else the vote with its members handed down.
-use Prim.Native.Nat.{ℕ, _≤_, _<_, _-_}
-use mathlib.Core.Path.{_≡_, refl, sym, ap, ap₂, _∙_}
+use Prim.Native.Nat.{ℕ, _-_}
+use mathlib.Core.Path.{sym, ap, ap₂, _∙_}
 use native.Mathlib.Omega.{arith}
 use borrow.Author.Needs.{needs, sfits-of}
 use lib.ListN.{length}

@@ -1,5 +1,5 @@
 -- `vote::words_refused` meets its contract: the settings' verdict, then the list's length.
-use mathlib.Core.Path.{_≡_, ap}
+use mathlib.Core.Path.{ap}
 use mathlib.Core.Bool.{not}
 use borrow.Author.Needs.{needs}
 use borrow.Author.Tests.{eq-eqb, ne-eqb}

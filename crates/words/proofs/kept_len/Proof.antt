@@ -1,7 +1,7 @@
--- `words::kept_len` meets its contract: `n` words are left of the first `i`.
-use Prim.Native.Nat.{_≤_, _<_, _-_}
-use mathlib.Core.Path.{_≡_, ap, _∙_}
-use mathlib.Core.Bool.{true, false}
+-- `words::kept_len` meets its contract: `n` words are left when the struck words of the first `i` are taken out.
+use Prim.Native.Nat.{_+_, _-_, _≤_, _<_}
+use mathlib.Core.Path.{_≡_, ap}
+use mathlib.Core.Bool.{true, false, not}
 use mathlib.Core.List.{List}
 use mathlib.Core.Logic.{⊎-elim}
 use native.Mathlib.Omega.{arith}
@@ -16,7 +16,7 @@ use Rattle.words.proofs.kept_len.Statement.{statement}
 use Rattle.words.proofs.kept_len.Tie as tie
 
 abbrev Inv-loop : tie.InvT-loop
-Inv-loop list n₀ i₀ i-end n i = (i ≤ length list) × (i-end ≡ length list) × (n ≤ i) × (n ≡ length (kept (omh .struck) (take i list)))
+Inv-loop list n₀ i₀ i-end n i = (i ≤ length list) × (i-end ≡ length list) × (n + i ≡ length list + length (kept (omh .struck) (take i list)))
 
 abbrev μ-loop : tie.MeasureT-loop
 μ-loop list n₀ i₀ i-end n i = length list - i
@@ -34,8 +34,8 @@ shared-slice-copy-out-is-struck c = omega arith
 is-struck-requires : tie.Need-is-struck-requires Inv-loop μ-loop
 is-struck-requires c κs = search needs
 
-add-n : tie.Need-add-n Inv-loop μ-loop
-add-n c = omega arith
+sub-n : tie.Need-sub-n Inv-loop μ-loop
+sub-n c = omega arith
 
 add-i : tie.Need-add-i Inv-loop μ-loop
 add-i c = omega arith
@@ -52,14 +52,18 @@ loop-again c =
     let h : i < length list = omega arith in
     let say = told (omh .struck) (getD list i (pos 0)) (call .before .is-struck-arg .given) (call .is-struck .ensures) in
     ⊎-elim
-    (λ w. omega (arith, kept-more list i h (omh .struck) false (say true (w .0 .taken))))
-    (λ w. omega (arith, kept-more list i h (omh .struck) true (say false (w .0 .left))))
+    (λ w. omega (arith, kept-more list i h (omh .struck) true (say false (ap not (w .0 .taken)))))
+    (λ w. omega (arith, kept-more list i h (omh .struck) false (say true (ap not (w .0 .left)))))
     (c .if1 .came)
 
 returns : tie.Need-returns Inv-loop μ-loop
-returns c = c .before .loop .inv .3 ∙ ap (λ (l : List ℤ). length (kept (omh .struck) l)) (take-all _ _ (c .loop-test .left))
+returns c =
+    let at = c .before in
+    let list = at .before .args .list .now in
+    let all : take (at .loop .i) list ≡ list = take-all _ _ (c .loop-test .left) in
+    omega (arith, ap (λ (l : List ℤ). length (kept (omh .struck) l)) all)
 
 pub kept-len-spec : {M : Type 1} → statement M
 kept-len-spec =
     tie.close
-    (tie.spec Inv-loop μ-loop loop-holds mul-is-struck shared-slice-copy-out-is-struck is-struck-requires add-n add-i loop-less loop-again returns)
+    (tie.spec Inv-loop μ-loop loop-holds mul-is-struck shared-slice-copy-out-is-struck is-struck-requires sub-n add-i loop-less loop-again returns)

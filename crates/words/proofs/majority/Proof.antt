@@ -1,6 +1,6 @@
 -- `words::majority` meets its contract. No word before `i` has the majority: it is still to be found from `i` on.
 -- The inner loop has counted `w` up to `j`, and not found more than half.
-use Prim.Native.Nat.{ℕ, _+_, _≤_, _<_, _-_, _/_}
+use Prim.Native.Nat.{_+_, _≤_, _<_, _-_, _/_}
 use mathlib.Core.Path.{_≡_, refl, sym, ap, _∙_}
 use mathlib.Core.Bool.{true, false}
 use mathlib.Core.List.{List}
@@ -13,7 +13,7 @@ use lib.Seq.{take-all}
 use mir.Syntax.{w32}
 use mir.Val.{ofZ}
 use Rattle.words.specs.Word.{E}
-use Rattle.words.specs.Majority.{same, kept, occurs, first, overHalf, majority}
+use Rattle.words.specs.Majority.{kept, occurs, first, overHalf, majority}
 use Rattle.words.specs.Rule.{omh, majorityBy}
 use Rattle.words.proofs.Bits.{back-is}
 use Rattle.words.proofs.Search.{told-same, told, occurs-more, occurs-other, turn-struck, turn-next, turn-over}

@@ -1,7 +1,6 @@
 -- `words::unwrap` meets its contract: each arm rewrites with the word's kind; a missing word is one of four, where all computes.
-use Prim.Native.Nat.{ℕ, _≤_, _<_}
+use Prim.Native.Nat.{ℕ, _≤_}
 use mathlib.Core.Path.{_≡_, refl, sym, subst}
-use native.Mathlib.Omega.{arith}
 use borrow.Author.Needs.{needs}
 use lib.Dec.{lit<}
 use lib.IntN.{ℤ, pos, _-ℤ_}

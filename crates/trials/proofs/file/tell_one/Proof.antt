@@ -1,11 +1,9 @@
 -- `trials::file::tell_one` meets its contract: the word in its place, or a place that the table does not have.
 use mathlib.Core.Path.{sym}
 use borrow.Author.Needs.{needs}
-use denote.Ref.{now}
-use lib.ListN.{set}
 use lib.Seq.{set-out}
 use Rattle.words.proofs.Bits.{back-is}
-use Rattle.trials.specs.File.{wordAt, toldOne}
+use Rattle.trials.specs.File.{wordAt}
 use Rattle.trials.proofs.file.tell_one.Statement.{statement}
 use Rattle.trials.proofs.file.tell_one.Tie as tie
 

@@ -1,0 +1,11 @@
+/* Functions that return at once and look at no argument: what a call of them costs is the harness's own. */
+#include <stddef.h>
+#include <stdint.h>
+
+int32_t none_majority() { return 0; }
+uint8_t none_vote_at() { return 0; }
+uint8_t none_refill() { return 0; }
+uint8_t none_enter_frame() { return 0; }
+uint8_t none_answer_for() { return 0; }
+uint8_t none_all_answers() { return 0; }
+size_t none_list() { return 0; }

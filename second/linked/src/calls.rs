@@ -1,0 +1,125 @@
+//! The calls of host/omh.h with the refusals that each can give, and a table of the
+//! outcomes that came.
+
+use crate::runs::Outcomes;
+use crate::tally::Tally;
+use std::fmt::Write;
+
+/// The outcomes of every call. Reading, wrapping and unwrapping one word is one input.
+#[derive(Debug, Default)]
+pub struct Calls {
+    pub words: Tally,
+    pub majority: Tally,
+    pub vote_at: Tally,
+    pub books: Outcomes,
+    pub next_exchange: Tally,
+    pub age: Tally,
+    pub read_frame: Tally,
+    pub write_frame: Tally,
+    pub word_for: Tally,
+    pub answer_for: Tally,
+    pub all_answers: Tally,
+    pub fill: Tally,
+    pub bound: Tally,
+    pub list: Tally,
+}
+
+/// A call's name, the refusals that it can give, and its outcomes.
+pub struct Row<'a> {
+    pub name: &'static str,
+    pub refusals: &'static [u8],
+    pub outcomes: &'a Tally,
+}
+
+const SETTINGS_AND_LISTS: &[u8] = &[1, 2, 3, 4, 5];
+const FILLING: &[u8] = &[1, 2, 3, 4, 5, 6, 7];
+const ENTERING_A_FRAME: &[u8] = &[1, 2, 3, 4, 5, 8, 9, 10, 11, 12, 13, 14, 15];
+
+impl Calls {
+    /// In the order of host/omh.h, with the refusals that stand there.
+    pub fn rows(&self) -> Vec<Row<'_>> {
+        let row = |name, refusals, outcomes| Row { name, refusals, outcomes };
+        vec![
+            row("read, wrap", &[], &self.words),
+            row("majority", &[], &self.majority),
+            row("vote_at", &[1, 2, 3, 4, 5, 8], &self.vote_at),
+            row("open", SETTINGS_AND_LISTS, &self.books.open),
+            row("enter", &[1, 2, 3, 4, 5, 8], &self.books.enter),
+            row("refill", SETTINGS_AND_LISTS, &self.books.refill),
+            row("held_answer", &[5], &self.books.held_answer),
+            row("next_exchange", &[], &self.next_exchange),
+            row("age, class", &[12, 13], &self.age),
+            row("read_frame", &[9, 10, 11, 14], &self.read_frame),
+            row("write_frame", &[5, 14], &self.write_frame),
+            row("enter_frame", ENTERING_A_FRAME, &self.books.enter_frame),
+            row("word_for", &[1, 2, 3, 4, 5, 6, 7, 8], &self.word_for),
+            row("answer_for", FILLING, &self.answer_for),
+            row("all_answers", &[1, 2, 3, 5, 6, 7], &self.all_answers),
+            row("fill", FILLING, &self.fill),
+            row("bound", &[1, 2, 5, 7], &self.bound),
+            row("list", &[1, 2, 3, 6, 7, 9, 10, 11, 16], &self.list),
+        ]
+    }
+
+    pub fn total(&self) -> u64 {
+        self.rows().iter().map(|row| row.outcomes.total()).sum()
+    }
+
+    /// Each refusal that a call can give and did not.
+    pub fn missing(&self) -> Vec<String> {
+        self.refusals_where(|row, number| {
+            row.refusals.contains(&number) && row.outcomes.times(number) == 0
+        })
+    }
+
+    /// Each refusal that a call gave and cannot give.
+    pub fn unexpected(&self) -> Vec<String> {
+        self.refusals_where(|row, number| {
+            !row.refusals.contains(&number) && row.outcomes.times(number) > 0
+        })
+    }
+
+    fn refusals_where(&self, chosen: impl Fn(&Row, u8) -> bool) -> Vec<String> {
+        let mut found = Vec::new();
+        for row in self.rows() {
+            let numbers = (1..=16).filter(|&number| chosen(&row, number));
+            found.extend(numbers.map(|number| format!("{}: {number}", row.name)));
+        }
+        found
+    }
+
+    /// The inputs by call, and how often each refusal came; a dot where a call has none
+    /// with that number.
+    pub fn summary(&self) -> String {
+        let rows = self.rows();
+        let mut text = table(&rows, 1..=8, true);
+        let later = |row: &Row| row.refusals.iter().any(|&number| number > 8);
+        let rows: Vec<Row> = rows.into_iter().filter(later).collect();
+        text.push('\n');
+        text + &table(&rows, 9..=16, false)
+    }
+}
+
+fn table(rows: &[Row], numbers: std::ops::RangeInclusive<u8>, with_totals: bool) -> String {
+    let mut text = format!("{:13}", "call");
+    if with_totals {
+        text += &format!(" {:>10} {:>10}", "inputs", "done");
+    }
+    for number in numbers.clone() {
+        let _ = write!(text, " {number:>8}");
+    }
+    for Row { name, refusals, outcomes } in rows {
+        let _ = write!(text, "\n{name:13}");
+        if with_totals {
+            let _ = write!(text, " {:>10} {:>10}", outcomes.total(), outcomes.times(0));
+        }
+        for number in numbers.clone() {
+            let times = outcomes.times(number);
+            let none = times == 0 && !refusals.contains(&number);
+            let cell = if none { ".".to_string() } else { times.to_string() };
+            let _ = write!(text, " {cell:>8}");
+        }
+    }
+    text.push('\n');
+    text
+}
