@@ -6,7 +6,8 @@
  * A list is a pointer and its length, counted in elements; a place for one
  * word, the eight fields and the text are pointers alone. No pointer is null,
  * the memory behind it has its length, and nothing that a call may write
- * overlaps anything else of the call; that is all a caller owes.
+ * overlaps anything else of the call; that is all a caller owes. The archive
+ * asks the C library for memcpy and memset, and for nothing else.
  *
  * Unless said otherwise an answer is 0, or the refusal's number of document
  * 01; after a refusal no lent memory differs. The numbers that a function may

@@ -24,6 +24,11 @@ CALLS = (
     ("list", "listing ({n}, {m}), 64 exceptions", ((10, 3),), (None,)),
 )
 
+WHY = """
+All answers at (4, 1) and (7, 2): the words of all cards stand in one list of 11,110 words, and no list of the proved code can be left unset, as C leaves its own. The disassembly of `bench::all_answers` has a call of `memset` over its 44,440 bytes, which callgrind counts at some 3,500 instructions in every call: three times C's whole call at (4, 1). A list that fits m would need a vote over lists of other lengths than document 01's 1,111 words. One card's answer has no target; it asks for each slot whether it is live, and walks up anew for each word.
+
+Refilling is below C because it reads the last level where it goes through the members, and C's does not."""
+
 
 def output(*command):
     done = subprocess.run(command, capture_output=True, text=True)
@@ -94,6 +99,7 @@ def main():
                 library[case] = row(f"{title.format(n=n, m=m)}, {words}", case, most)
     gains = [f"{library[f'vote-10-3-{words}'] / library[f'enter-10-3-{words}']:.1f} ({words})" for words in WORDS]
     print(f"\nEntering a frame at (10, 3) takes {' and '.join(gains)} times fewer instructions than the plain vote; at least 18 are asked for.")
+    print(WHY)
 
 
 main()
