@@ -1,5 +1,5 @@
 -- Demand 2 of the code: what good cards' answers are where the calls for them are not refused. It assumes nothing else: any table, any words of the faulty cards.
-use Prim.Native.Nat.{ℕ, zero, suc, _≤_, _<_}
+use Prim.Native.Nat.{ℕ, _≤_, _<_}
 use mathlib.Core.Path.{_≡_, refl, sym, ap, _∙_}
 use mathlib.Core.Bool.{true, cond}
 use mathlib.Core.List.{List}
@@ -13,13 +13,14 @@ use Rattle.words.specs.Word.{E, kindOf, readAt}
 use Rattle.words.specs.Rule.{omh}
 use Rattle.words.specs.declared.Kind.{Kind}
 use Rattle.words.specs.declared.Kind.the-variants.{Ordinary, Missing, Bad}
-use Rattle.paths.specs.Checks.{verdict, value, answer}
+use Rattle.paths.specs.Checks.{verdict, value}
 use Rattle.paths.specs.Rack.{settingsChecks}
 use Rattle.paths.proofs.Verdicts.{Good, accepted, after-made, passed, passed-lists, settings-good}
 use Rattle.paths.proofs.Tables.{at-table}
 use Rattle.vote.specs.Vote.{at}
 use Rattle.book.specs.Book.{Book, held}
-use Rattle.book.specs.Asked.{doneOf, outcome}
+use Rattle.book.specs.Asked.{outcome}
+use Rattle.book.proofs.Outcomes.{done-none}
 use Rattle.book.specs.declared.Done.the-variants as done
 use Rattle.bench.specs.Exchange.{statusOf, good, symmetric, manifest, Exchange, exchange, answerOf, answersOf}
 use Rattle.bench.specs.Bound.{cards, enough, bounded}
@@ -96,11 +97,6 @@ module _ (n m t : ℕ) (x : ℤ) (statuses : List ℕ) (words : List ℤ) where
   n-cards few = fitted-count n few
 
   -- ---- the other calls for answers
-
-  done-none : (v : ℕ) → doneOf (answer v tt) ≡ done.Done → v ≡ 0
-  unfolding answer
-  done-none zero e = refl
-  done-none (suc v) e = let z : _≡_ {A = ℕ} 0 1 = cc e in absurd (omega arith)
 
   -- what `all_answers` leaves, where it is done, has each card's answer in its place
   pub all-tell : (list : List ℤ) → answersAsked n m t x statuses words list .yields ≡ done.Done → n ≤ 10 → (p : ℕ) → p < n → at (answersAsked n m t x statuses words list .leaves) p ≡ answerOf omh X p

@@ -1,7 +1,7 @@
 -- Laws of the status bytes: when one of the ten is bad, and what each is by its number.
 use Prim.Native.Nat.{ℕ, zero, suc, _+_, _≤_, _<_}
 use mathlib.Core.Path.{_≡_, refl, sym, _∙_}
-use mathlib.Core.Bool.{Bool, true, false, _||_}
+use mathlib.Core.Bool.{Bool, true, false, _||_, or-true}
 use mathlib.Core.List.{List}
 use native.Mathlib.Omega.{arith}
 use native.Mathlib.Decide.{ℕ-discrete}
@@ -14,10 +14,6 @@ use Rattle.bench.specs.Bound.{isArbitrary, isSymmetric, isManifest}
 use Rattle.bench.specs.Asked.{statusBad, someOf, statusesBad}
 
 -- ---- some of a table
-
-or-true : (b : Bool) → (b || true) ≡ true
-or-true true = refl
-or-true false = refl
 
 module _ (f : ℕ → Bool) where
   pub none-of : (c s : ℕ) → ((q : ℕ) → q < s + c → f q ≡ false) → someOf (table c s f) ≡ false

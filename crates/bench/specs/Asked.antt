@@ -52,10 +52,13 @@ isOrdinary Ordinary = true
 isOrdinary (Missing w) = false
 isOrdinary Bad = false
 
--- after the settings: the lengths, the statuses, and whether x is ordinary
+-- the statuses, and whether x is ordinary
+abbrev pub statusChecks : ℕ → ℤ → List ℕ → List Check
+statusChecks n x statuses = check refusal.status (statusesBad n statuses) ∷ check refusal.value (not (isOrdinary (kindOf x))) ∷ []
+
+-- after the settings: the lengths first
 abbrev pub valueChecks : ℕ → ℤ → List ℕ → Bool → List Check
-valueChecks n x statuses long =
-    check refusal.long (not long) ∷ check refusal.status (statusesBad n statuses) ∷ check refusal.value (not (isOrdinary (kindOf x))) ∷ []
+valueChecks n x statuses long = check refusal.long (not long) ∷ statusChecks n x statuses
 
 -- one word: 1 to 5, 7, 6, 8
 abbrev pub wordChecks : ℕ → ℕ → ℕ → ℤ → List ℕ → List ℤ → ℕ → ℕ → List Check

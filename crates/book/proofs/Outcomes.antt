@@ -1,12 +1,13 @@
 -- What the verdict on a call makes of its outcome, and what no verdict tells.
-use Prim.Native.Nat.{ℕ}
-use mathlib.Core.Path.{_≡_}
+use Prim.Native.Nat.{ℕ, zero, suc}
+use mathlib.Core.Path.{_≡_, refl}
 use mathlib.Core.Bool.{false, not}
 use mathlib.Core.List.{List}
+use native.Mathlib.Omega.{arith}
 use lib.Dec.{T, eqb, eqb→eq}
 use lib.IntN.{ℤ}
 use lib.ListN.{length}
-use Rattle.paths.specs.Checks.{verdict}
+use Rattle.paths.specs.Checks.{verdict, answer}
 use Rattle.paths.specs.Rack.{rack, settingsChecks}
 use Rattle.paths.specs.Slots.{slots, live}
 use Rattle.paths.proofs.Bools.{and-left, and-right}
@@ -16,7 +17,7 @@ use Rattle.book.specs.Book.{Book}
 use Rattle.book.specs.Run.{Sized}
 use Rattle.book.specs.Remaking.{Enters}
 use Rattle.book.specs.Filling.{Refills}
-use Rattle.book.specs.Asked.{bookOf, outcomeOf, sized, bookChecks, slotChecks, outcome}
+use Rattle.book.specs.Asked.{bookOf, outcomeOf, doneOf, sized, bookChecks, slotChecks, outcome}
 use Rattle.book.specs.declared.Done.{Done}
 use Rattle.book.specs.declared.Done.the-variants as done
 
@@ -32,6 +33,12 @@ module _ {no v : ℕ} (e : no ≡ v) where
   outcome-done z before {made} ws vs m = rw (← e, answered no (tt {0}) z, after-made no before made z, ← m)
 
 -- ---- no verdict
+
+-- a call that is done has none
+pub done-none : (v : ℕ) → doneOf (answer v tt) ≡ done.Done → v ≡ 0
+unfolding answer
+done-none zero e = refl
+done-none (suc v) e = let z : _≡_ {A = ℕ} 0 1 = cc e in absurd (omega arith)
 
 pub sized-both : (b : Book) → not (sized b) ≡ false → Sized b
 sized-both b e =

@@ -1,7 +1,7 @@
 -- Laws of a path's relays taken out of the members, the last relay first.
 use Prim.Native.Nat.{ℕ, zero, suc, _≤_, _<_}
 use mathlib.Core.Path.{_≡_, refl, sym, ap, ap₂, _∙_}
-use mathlib.Core.Bool.{Bool, true, false, not, _&&_}
+use mathlib.Core.Bool.{Bool, true, false, not, _&&_, and-true, and-false}
 use mathlib.Core.List.{List, [], _∷_}
 use native.Mathlib.Omega.{arith}
 use native.Mathlib.Decide.{ℕ-discrete}
@@ -24,17 +24,9 @@ use Rattle.book.specs.Remaking.{among, TakesOut}
 may-out : (l : List Bool) (q r : ℕ) → q < length l → may (set l q false) r ≡ (may l r && not (eqb q r))
 may-out l q r h = go (ℕ-discrete q r)
   where
-    none : (b : Bool) → false ≡ (b && false)
-    none true = refl
-    none false = refl
-
-    stays : (b : Bool) → b ≡ (b && true)
-    stays true = refl
-    stays false = refl
-
     go : Dec (q ≡ r) → may (set l q false) r ≡ (may l r && not (eqb q r))
-    go (yes e) = rw (eq-eqb q r e) (ap (may (set l q false)) (sym e) ∙ getD-set-same l q false false h ∙ none (may l r))
-    go (no n) = rw (ne-eqb q r n) (getD-set-other l q r false false (λ e. n (sym e)) ∙ stays (may l r))
+    go (yes e) = rw (eq-eqb q r e) (ap (may (set l q false)) (sym e) ∙ getD-set-same l q false false h ∙ sym (and-false (may l r)))
+    go (no n) = rw (ne-eqb q r n) (getD-set-other l q r false false (λ e. n (sym e)) ∙ sym (and-true (may l r)))
 
 all-out : (l : List Bool) (q : ℕ) (qs : List ℕ) → q < length l → all (may (set l q false)) qs ≡ (all (may l) qs && noneOf q qs)
 unfolding all noneOf
@@ -97,23 +89,15 @@ module _ {members₀ : List Bool} {slot : ℕ} {members : List Bool} {k : ℕ} (
   take-done h = record {
     tells = sym (among-none members k h) ∙ c .tells;
     long = c .long;
-    others = λ z q g. stays (may members q) ∙ ap (λ (b : Bool). may members q && b) (sym (none-zero q k h)) ∙ c .others q g;
+    others = λ z q g. sym (and-true (may members q)) ∙ ap (λ (b : Bool). may members q && b) (sym (none-zero q k h)) ∙ c .others q g;
   }
-    where
-      stays : (b : Bool) → b ≡ (b && true)
-      stays true = refl
-      stays false = refl
 
 -- ---- from the members of slot 0
 
 module _ (S : Rack) where
   first-may : (q : ℕ) → q < 10 → may (membersOf S 0) q ≡ mayRelay S q
   unfolding lengthens
-  first-may q h = handed-table S 0 q h ∙ rw (none-zero q 0 (omega arith)) (go (mayRelay S q))
-    where
-      go : (b : Bool) → (b && true) ≡ b
-      go true = refl
-      go false = refl
+  first-may q h = handed-table S 0 q h ∙ rw (none-zero q 0 (omega arith)) (and-true (mayRelay S q))
 
   all-same : (f g : ℕ → Bool) → ((q : ℕ) → q < 10 → f q ≡ g q) → (d k : ℕ) → all f (relaysBy d k) ≡ all g (relaysBy d k)
   unfolding all relaysBy

@@ -2,7 +2,7 @@
 use Prim.Native.Nat.{ℕ, zero, suc}
 use mathlib.Core.Path.{_≡_, refl, ap}
 use mathlib.Core.Bool.{Bool, true, false}
-use mathlib.Core.List.{List}
+use mathlib.Core.List.{List, _++_}
 use native.Mathlib.Omega.{arith}
 use lib.IntN.{ℤ}
 use Rattle.paths.specs.Checks.{Check, verdict, Answer, value, refused, answer, after}
@@ -27,11 +27,12 @@ use Rattle.frames.specs.declared.Written.the-variants as written
 use Rattle.bench.specs.Asked as bench
 use Rattle.bench.specs.declared.Told.the-variants as told
 use Rattle.bench.specs.declared.Bounded.the-variants as bound
-use Rattle.trials.specs.File.{fileChecks}
-use Rattle.trials.specs.Listing.{refusedLine, textOf}
+use Rattle.bench.specs.Bound.{bounded}
+use Rattle.trials.specs.File.{cards, fileChecks, exchangeOf}
+use Rattle.trials.specs.Listing.{lines, cardLine, boundLine, refusedLine, textOf}
 use Rattle.omh.specs.Numbers.{numbered, placedAs}
-use Rattle.demands.specs.Refusing.{First, Refuses}
-use Rattle.demands.proofs.Order.{refuses, first-verdict}
+use Rattle.demands.specs.Refusing.{NoneOf, First, Refuses}
+use Rattle.demands.proofs.Order.{refuses, first-verdict, none-verdict}
 
 -- a call that is lent nothing to write
 abbrev Judged : {Y : Type 0} → List Check → (ℕ → Y) → Y → Type 0
@@ -160,10 +161,15 @@ pub write-frame : (f : Frame) (buffer : List ℕ) → Refuses (frames.writeCheck
 unfolding frames.writeAsked
 write-frame f buffer = refuses _ frames.writtenOf written.Refused (λ k. refl) written-as tt buffer _
 
--- a listing file: its text is the refusal's line
-pub listing : (file : List ℕ) (k : ℕ) → First (fileChecks file) (suc k) → textOf file ≡ refusedLine (suc k)
-unfolding textOf answer
-listing file k f = rw (first-verdict (fileChecks file) (suc k) f)
+-- a listing file: its text is the first refusal's line, and the cards' lines and the bound's where no check applies
+module _ (file : List ℕ) where
+  pub listing-refused : (k : ℕ) → First (fileChecks file) (suc k) → textOf file ≡ refusedLine (suc k)
+  unfolding textOf answer
+  listing-refused k f = rw (first-verdict (fileChecks file) (suc k) f)
+
+  pub listing-printed : NoneOf (fileChecks file) → textOf file ≡ lines (cardLine file) (cards file) ++ boundLine (bounded (exchangeOf file))
+  unfolding textOf answer
+  listing-printed none = rw (none-verdict (fileChecks file) none)
 
 -- ---- what C sees: the number is the verdict, and a verdict changes nothing that is lent
 

@@ -128,5 +128,5 @@ module _ (n m t p k : ℕ) where
       pub bench-bound-order : numbers (bench.boundChecks n m statuses) ≡ 1 ∷ 2 ∷ 5 ∷ 7 ∷ []
       bench-bound-order = refl
 
-    pub listing-order : (file : List ℕ) → numbers (trials.fileChecks file) ≡ 9 ∷ 10 ∷ 11 ∷ 16 ∷ 9 ∷ 1 ∷ 2 ∷ 3 ∷ 5 ∷ 7 ∷ 6 ∷ 16 ∷ []
+    pub listing-order : (file : List ℕ) → numbers (trials.fileChecks file) ≡ 9 ∷ 10 ∷ 11 ∷ 16 ∷ 9 ∷ 1 ∷ 2 ∷ 3 ∷ 7 ∷ 6 ∷ 16 ∷ []
     listing-order file = refl

@@ -17,10 +17,11 @@ use Rattle.vote.specs.Vote.{at, vote}
 use Rattle.vote.proofs.Choices.{cond-case}
 use Rattle.book.specs.Book.{Book, opened}
 use Rattle.book.specs.Run.{Entry, step, run, wordsLeft, Sized}
-use Rattle.book.specs.Asked.{Outcome, bookChecks, outcome, heldAsked}
+use Rattle.book.specs.Asked.{Outcome, doneOf, bookChecks, outcome, heldAsked}
 use Rattle.book.specs.declared.Done.{Done}
 use Rattle.book.specs.declared.Done.the-variants as done
 use Rattle.book.proofs.Calls.{not-refused, open-call, enter-call, run-of-calls, held-after-calls}
+use Rattle.book.proofs.Outcomes.{done-none}
 use Rattle.book.proofs.FromOpening.{opened-sized, step-sized}
 use Rattle.book.proofs.Demand3.{omh-demand-3}
 use Rattle.frames.specs.Entry.{frameChecks, entryChecks, frameAsked}
@@ -40,15 +41,10 @@ unfolding outcome answer after
 refused-same zero before made k e = let z : _≡_ {A = ℕ} 0 1 = cc e in absurd (omega arith)
 refused-same (suc v) before made k e = refl
 
--- and one that is done has the verdict 0
-done-none : (v : ℕ) (before made : Book) → outcome v before made .yields ≡ done.Done → v ≡ 0
-unfolding outcome answer
-done-none zero before made e = refl
-done-none (suc v) before made e = let z : _≡_ {A = ℕ} 0 1 = cc e in absurd (omega arith)
-
-none-done : {v : ℕ} → v ≡ 0 → (before made : Book) → outcome v before made .yields ≡ done.Done
-unfolding outcome answer
-none-done e before made = rw e
+-- no verdict: it is done
+none-done : {v : ℕ} → v ≡ 0 → doneOf (answer v tt) ≡ done.Done
+unfolding answer
+none-done e = rw e
 
 -- a refused frame changes neither list, whatever the settings and the lists
 pub refused-keeps : (n m t p : ℕ) (b : Book) (current : ℕ) (bytes : List ℕ) (k : ℕ) → frameAsked n m t p b current bytes .yields ≡ done.Refused k → frameAsked n m t p b current bytes .leaves ≡ b
@@ -66,10 +62,10 @@ module _ (n m t p : ℕ) (none : verdict (settingsChecks n m t p) ≡ 0) where
 
       -- a frame is done exactly where it is taken and the slot of its entry is live
       pub frame-done : (frameAsked n m t p b current bytes .yields ≡ done.Done) ↔ ((taken t p (frame current bytes) ≡ true) × (live (rack n m t p) (entryOf (frame current bytes) .slot) ≡ true))
-      unfolding frameAsked
+      unfolding frameAsked outcome
       frame-done = (
-        λ e. let both = passed-both checks tt 7 _ (done-none _ b _ e) in (eq-eqb _ _ (sym frame-decides ∙ both .0), not-false _ (both .1)),
-        λ e. none-done (sym (none-next checks tt refusal.path (sym (frame-decides ∙ eqb-true _ _ (e .0))) refl (ap not (e .1)))) b _,
+        λ e. let both = passed-both checks tt 7 _ (done-none _ e) in (eq-eqb _ _ (sym frame-decides ∙ both .0), not-false _ (both .1)),
+        λ e. none-done (sym (none-next checks tt refusal.path (sym (frame-decides ∙ eqb-true _ _ (e .0))) refl (ap not (e .1)))),
       )
         where
           checks : List Check

@@ -1,7 +1,7 @@
 -- Laws of the live paths.
 use mathlib.Core.Path.{_≡_, refl, sym, _∙_, subst}
 use Prim.Native.Nat.{ℕ, suc, _≤_, _<_}
-use mathlib.Core.Bool.{Bool, true, false, not, _&&_, _||_}
+use mathlib.Core.Bool.{Bool, true, false, not, _&&_, _||_, and-false}
 use mathlib.Core.List.{List, _∷_}
 use native.Mathlib.Omega.{arith}
 use lib.Dec.{T, ltb, leb, eqb, ltb→lt, lt→ltb, leb→le, le→leb, eqb→eq, eqb-refl, T-not, not-T}
@@ -135,11 +135,7 @@ module _ (S : Rack) (k : ℕ) (h : k < 1111) (p : 0 < k) where
   clean-barred e = clean-step ∙ rw e
 
   pub clean-twice : noneOf (lastRelay k) (relays (above k)) ≡ false → clean S k ≡ false
-  clean-twice e = clean-step ∙ rw e (go (mayRelay S (lastRelay k) && all (mayRelay S) (relays (above k))))
-    where
-      go : (b : Bool) → (b && false) ≡ false
-      go true = refl
-      go false = refl
+  clean-twice e = clean-step ∙ rw e (and-false (mayRelay S (lastRelay k) && all (mayRelay S) (relays (above k))))
 
   pub clean-next : mayRelay S (lastRelay k) ≡ true → noneOf (lastRelay k) (relays (above k)) ≡ true → clean S (above k) ≡ clean S k
   clean-next e f = sym (clean-step ∙ rw (e, f))

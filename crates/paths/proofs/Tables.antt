@@ -1,7 +1,7 @@
 -- Laws of the tables that loops over cards and relays make.
 use Prim.Native.Nat.{ℕ, zero, suc, _+_, _-_, _≤_, _<_}
 use mathlib.Core.Path.{_≡_, refl, sym, ap, _∙_}
-use mathlib.Core.Bool.{Bool, true, false, not, _&&_}
+use mathlib.Core.Bool.{Bool, true, false, not, _&&_, and-true, and-false}
 use mathlib.Core.List.{List, [], _∷_}
 use native.Mathlib.Omega.{arith}
 use native.Mathlib.Decide.{ℕ-discrete}
@@ -77,17 +77,9 @@ fitted-at n q from e h = (ap (λ (l : List Bool). getD l (from + q) false) all �
 at-barred : (l : List Bool) (q i : ℕ) → i < length l → getD (set l q false) i false ≡ (getD l i false && not (eqb i q))
 at-barred l q i h = go (ℕ-discrete i q)
   where
-    none : (b : Bool) → false ≡ (b && false)
-    none true = refl
-    none false = refl
-
-    stays : (b : Bool) → b ≡ (b && true)
-    stays true = refl
-    stays false = refl
-
     go : Dec (i ≡ q) → getD (set l q false) i false ≡ (getD l i false && not (eqb i q))
-    go (yes e) = rw (eq-eqb i q e) (ap (λ (j : ℕ). getD (set l j false) i false) (sym e) ∙ getD-set-same l i false false h ∙ none (getD l i false))
-    go (no n) = rw (ne-eqb i q n) (getD-set-other l q i false false n ∙ stays (getD l i false))
+    go (yes e) = rw (eq-eqb i q e) (ap (λ (j : ℕ). getD (set l j false) i false) (sym e) ∙ getD-set-same l i false false h ∙ sym (and-false (getD l i false)))
+    go (no n) = rw (ne-eqb i q n) (getD-set-other l q i false false n ∙ sym (and-true (getD l i false)))
 
 -- the fitted cards, less the sender and the own card, may relay
 pub may-table : (n m t p : ℕ) {l : List Bool} → l ≡ table 10 0 (λ q. ltb q n) → set (set l t false) p false ≡ table 10 0 (mayRelay (rack n m t p))
@@ -108,12 +100,8 @@ may-table n m t p {l} same =
 pub out-next : (found : List Bool) (k : ℕ) → length found ≡ 10 → k < 1111 → 0 < k → (q : ℕ) → q < 10 → (getD (set found (lastRelay k) false) q false && noneOf q (relays (above k))) ≡ (getD found q false && noneOf q (relays k))
 out-next found k e h p q g = go (ℕ-discrete q (lastRelay k))
   where
-    none : (b : Bool) → false ≡ (b && false)
-    none true = refl
-    none false = refl
-
     go : Dec (q ≡ lastRelay k) → (getD (set found (lastRelay k) false) q false && noneOf q (relays (above k))) ≡ (getD found q false && noneOf q (relays k))
-    go (yes s) = rw (none-here q k h p s) (ap (λ (b : Bool). b && noneOf q (relays (above k))) (ap (λ (j : ℕ). getD (set found (lastRelay k) false) j false) s ∙ getD-set-same found (lastRelay k) false false (omega arith)) ∙ none (getD found q false))
+    go (yes s) = rw (none-here q k h p s) (ap (λ (b : Bool). b && noneOf q (relays (above k))) (ap (λ (j : ℕ). getD (set found (lastRelay k) false) j false) s ∙ getD-set-same found (lastRelay k) false false (omega arith)) ∙ sym (and-false (getD found q false)))
     go (no n) = rw (getD-set-other found (lastRelay k) q false false n, none-next q k h p n)
 
 -- every card that may relay, less no relay yet; and at the end
@@ -122,11 +110,7 @@ unfolding lengthens
 out-first S k h q g = rw (at-table 10 0 (mayRelay S) q false g, lt-ltb k 1111 h) (ap (λ (j : ℕ). mayRelay S j && noneOf q (relays k)) (omega arith))
 
 pub out-last : (b : Bool) (q k : ℕ) → k ≤ 0 → b ≡ (b && noneOf q (relays k))
-out-last b q k h = rw (none-zero q k h) (go b)
-  where
-    go : (b : Bool) → b ≡ (b && true)
-    go true = refl
-    go false = refl
+out-last b q k h = rw (none-zero q k h) (sym (and-true b))
 
 -- no card lengthens the path of a number that is no slot
 pub no-members : (S : Rack) (k : ℕ) → 1111 ≤ k → false ∷ false ∷ false ∷ false ∷ false ∷ false ∷ false ∷ false ∷ false ∷ false ∷ [] ≡ membersOf S k

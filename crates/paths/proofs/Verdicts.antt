@@ -56,6 +56,12 @@ module _ (k : ℕ) (b : Bool) (cs : List Check) where
   unfolding verdict
   passes e n q = rw e q
 
+-- a check that does not apply may as well not be there
+pub skipped : (k : ℕ) (cs ds : List Check) → verdict (cs ++ check k false ∷ ds) ≡ verdict (cs ++ ds)
+unfolding verdict
+skipped k [] ds = refl
+skipped k (c ∷ cs) ds = ap (cond (c .applies) (c .number)) (skipped k cs ds)
+
 -- ---- one list of checks after another
 
 -- no check's number is 0

@@ -11,9 +11,10 @@ use Rattle.text.specs.Decimal.{digitsOf, decimalOf}
 use Rattle.text.proofs.Digits.{last, one-digit, more-digits}
 use Rattle.text.proofs.Laws.{length-text}
 
-pub sets-last : (bs l : List ℕ) (i b : ℕ) → sets l i (bs ++ (b ∷ [])) ≡ set (sets l i bs) (i + length bs) b
-sets-last [] l i b = let e : i + 0 ≡ i = omega arith in rw e
-sets-last (c ∷ bs) l i b = let e : i + suc (length bs) ≡ suc i + length bs = omega arith in rw e (sets-last bs (set l i c) (suc i) b)
+-- one text after another
+pub sets-append : (p q l : List ℕ) (i : ℕ) → sets l i (p ++ q) ≡ sets (sets l i p) (i + length p) q
+sets-append [] q l i = let e : i + 0 ≡ i = omega arith in rw e
+sets-append (v ∷ p) q l i = let e : i + suc (length p) ≡ suc i + length p = omega arith in rw e (sets-append p q (set l i v) (suc i))
 
 -- the digits of n but the last are stored in l from the place i on, and make it `out`; the last goes to `next`
 pub record Begun (l : List ℕ) (i n next : ℕ) (out : List ℕ) : Type 0 where
@@ -37,7 +38,7 @@ module _ {l : List ℕ} {i n next : ℕ} {out : List ℕ} where
     kept v = length-set out next v ∙ ap length (b .holds) ∙ length-sets l i (b .front)
 
     pub ended : (next + 1 ≡ i + length (digitsOf 10 n)) × (set out next (last n) ≡ sets l i (digitsOf 10 n))
-    ended = rw (b .digits) (rw length-append (omega arith), rw (b .place, b .holds) (sym (sets-last (b .front) l i (last n))))
+    ended = rw (b .digits) (rw length-append (omega arith), rw (b .place, b .holds) (sym (sets-append (b .front) (last n ∷ []) l i)))
 
 -- the text of a word, stored from the first place on: the text, then what the list held
 pub stored : (x : ℤ) (l : List ℕ) {text out : List ℕ} {r : ℕ} → length l ≡ 12 → decimalOf x ≡ text → r ≡ length text → out ≡ sets l 0 text → (r ≡ length (decimalOf x)) × (out ≡ decimalOf x ++ drop (length (decimalOf x)) l)

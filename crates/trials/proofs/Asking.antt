@@ -13,7 +13,7 @@ use mir.Val.{SFits}
 use borrow.Author.Tests.{lt-ltb, le-ltb, eq-eqb, ne-eqb, ltb-false}
 use Rattle.paths.specs.Refusal as refusal
 use Rattle.paths.specs.Checks.{Check, check, verdict, value}
-use Rattle.paths.proofs.Verdicts.{answered, after-made, no-checks, applies, passes, passed, passed-lists, passed-both, rest-says, rounds-good}
+use Rattle.paths.proofs.Verdicts.{answered, after-made, no-checks, skipped, applies, passes, passed, passed-lists, passed-both, rest-says, rounds-good}
 use Rattle.frames.specs.Bytes.{starts, be16}
 use Rattle.words.proofs.Bits.{back, back-is}
 use Rattle.words.specs.Rule.{omh}
@@ -76,7 +76,7 @@ ten-statuses file h = length-take-le 10 (drop 8 file) (rw (length-drop 8 file) (
 
 -- the verdict as a caller has it, of the head's fields and with the value read back from its bits
 pub exchange-verdict : (file : List ℕ) → 24 ≤ length file → {h : Head} → h ≡ headOf file → SFits w32 (h .x) → {no : ℕ} → no ≡ verdict (senderChecks (h .n) (h .m) (h .t) ++ valueChecks (h .n) (back (h .x)) (statuses file) (eqb (length (statuses file)) 10)) → no ≡ verdict (exchangeChecks file)
-exchange-verdict file l e f q = q ∙ rw (back-is f, eq-eqb _ _ (ten-statuses file l), e)
+exchange-verdict file l e f q = q ∙ rw (back-is f, eq-eqb _ _ (ten-statuses file l), e) (skipped 5 (senderChecks (cards file) (rounds file) (sender file)) _)
 
 -- ---- what no verdict tells
 
@@ -98,7 +98,7 @@ accepted file e =
     let exchange = passed-lists (exchangeChecks file) tt (check refusal.exception (exceptionsBad file) ∷ []) (both .1) .0 in
     let parts = passed-lists (senderChecks (cards file) (rounds file) (sender file)) tt _ exchange in
     let settings = passed-both (roundsChecks (cards file) (rounds file)) tt 2 (leb (cards file) (sender file)) (parts .0) .0 in
-    let fine = passed 6 _ _ (passed 4 _ _ (parts .1) .1) .0 in
+    let fine = passed 6 _ _ (parts .1) .0 in
     record {
       head = head;
       exchange = exchange;
@@ -132,6 +132,6 @@ pub answers-are : (file : List ℕ) → Accepted file → {h : Head} → h ≡ h
 unfolding answersAsked
 answers-are file a {h} e f {words} w before ten {d} {list} q =
     let long : inputsLong (statuses file) (tableOf file) ≡ true = rw (eq-eqb _ _ (ten-statuses file (a .head)), eq-eqb _ _ (length-told file (exceptions file) allMissing ∙ length-missing)) in
-    let none : verdict (answersChecks (cards file) (rounds file) (sender file) (value· file) (statuses file) (tableOf file) before) ≡ 0 = rw (long, eq-eqb _ _ ten) (a .exchange) in
+    let none : verdict (answersChecks (cards file) (rounds file) (sender file) (value· file) (statuses file) (tableOf file) before) ≡ 0 = rw (long, eq-eqb _ _ ten) (skipped 5 (senderChecks (cards file) (rounds file) (sender file)) _ ∙ a .exchange) in
     let same : answersAsked (h .n) (h .m) (h .t) (back (h .x)) (statuses file) words before ≡ answersAsked (cards file) (rounds file) (sender file) (value· file) (statuses file) (tableOf file) before = rw (back-is f, e, w) in
     ap (λ (o : Answers). o .leaves) (q ∙ same) ∙ after-made _ _ _ none

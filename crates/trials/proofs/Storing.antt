@@ -5,12 +5,8 @@ use mathlib.Core.List.{List, [], _∷_, _++_}
 use native.Mathlib.Omega.{arith}
 use lib.ListN.{length, getD, set, take, drop, length-append}
 use lib.Seq.{sets, length-sets, length-take-le, take-suc, take-at}
-use Rattle.text.proofs.Store.{sets-last}
+use Rattle.text.proofs.Store.{sets-append}
 use Rattle.trials.specs.Storing.{Stored}
-
-sets-append : (p q l : List ℕ) (i : ℕ) → sets l i (p ++ q) ≡ sets (sets l i p) (i + length p) q
-sets-append [] q l i = let e : i + 0 ≡ i = omega arith in rw e
-sets-append (v ∷ p) q l i = let e : i + suc (length p) ≡ suc i + length p = omega arith in rw e (sets-append p q (set l i v) (suc i))
 
 -- one piece after another
 pub then : {l m o : List ℕ} {i j k : ℕ} (p q : List ℕ) → Stored l i p j m → Stored m j q k o → Stored l i (p ++ q) k o
@@ -47,4 +43,4 @@ pub next : (piece l : List ℕ) (at i : ℕ) {m : List ℕ} → i < length piece
 next piece l at i {m} h e =
     let more : i + 1 ≡ suc i = omega arith in
     let long = length-take-le i piece (omega arith) in
-    sym (rw (more, take-suc piece i 0 h) (sets-last (take i piece) l at (getD piece i 0) ∙ rw (long, ← e)))
+    sym (rw (more, take-suc piece i 0 h) (sets-append (take i piece) (getD piece i 0 ∷ []) l at ∙ rw (long, ← e)))

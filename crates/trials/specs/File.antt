@@ -1,6 +1,6 @@
 -- Document 01, 'Listing program': a file's fields, when it is refused, and the exchange that it gives.
 use Prim.Native.Nat.{ℕ, zero, suc, _+_, _*_}
-use mathlib.Core.Bool.{Bool, true, not, _||_}
+use mathlib.Core.Bool.{Bool, not, _||_}
 use mathlib.Core.List.{List, [], _∷_, _++_}
 use lib.Dec.{eqb, ltb}
 use lib.IntN.{ℤ}
@@ -12,7 +12,7 @@ use Rattle.paths.specs.Rack.{senderChecks}
 use Rattle.paths.specs.Slots.{table}
 use Rattle.frames.specs.Bytes.{byte, starts, be16, be32, signed32}
 use Rattle.bench.specs.Exchange.{Exchange, exchange}
-use Rattle.bench.specs.Asked.{someOf, valueChecks}
+use Rattle.bench.specs.Asked.{someOf, statusChecks}
 use Rattle.trials.specs.declared.file.Head.{Head}
 
 -- the letters OMX
@@ -74,9 +74,9 @@ shapeChecks file =
     ∷ check refusal.size (not (eqb (length file) (24 + 7 * exceptions file)))
     ∷ []
 
--- 1, 2, 3, 7, 6; the statuses are ten bytes, so that 5 never applies
+-- 1, 2, 3, 7, 6
 abbrev pub exchangeChecks : List ℕ → List Check
-exchangeChecks file = senderChecks (cards file) (rounds file) (sender file) ++ valueChecks (cards file) (value file) (statuses file) true
+exchangeChecks file = senderChecks (cards file) (rounds file) (sender file) ++ statusChecks (cards file) (value file) (statuses file)
 
 -- and 16 for a bad exception
 abbrev pub fileChecks : List ℕ → List Check

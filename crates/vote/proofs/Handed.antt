@@ -1,7 +1,7 @@
 -- The vote with its members handed down is the vote.
 use Prim.Native.Nat.{ℕ, zero, suc, _+_, _-_, _≤_, _<_}
 use mathlib.Core.Path.{_≡_, refl, sym, ap, _∙_, subst}
-use mathlib.Core.Bool.{Bool, true, false, cond, not, _&&_, _||_}
+use mathlib.Core.Bool.{Bool, true, false, cond, not, _&&_, _||_, and-false}
 use mathlib.Core.List.{List}
 use native.Mathlib.Numerals.{add-one}
 use native.Mathlib.Omega.{arith}
@@ -56,11 +56,7 @@ module _ (S : Rack) (k q r : ℕ) (h : k < 111) (g : q < 10) where
   lengthens-below = rw (lt-ltb (below k q) 1111 (omega arith), relays-below k q h g)
 
   lengthens-itself : r ≡ q → lengthens S (below k q) r ≡ false
-  lengthens-itself e = lengthens-below ∙ ap (λ (b : Bool). mayRelay S r && (not b && noneOf r (relays k))) (eq-eqb r q e) ∙ go (mayRelay S r)
-    where
-      go : (b : Bool) → (b && false) ≡ false
-      go true = refl
-      go false = refl
+  lengthens-itself e = lengthens-below ∙ ap (λ (b : Bool). mayRelay S r && (not b && noneOf r (relays k))) (eq-eqb r q e) ∙ and-false (mayRelay S r)
 
   lengthens-other : (r ≡ q → ⊥) → lengthens S (below k q) r ≡ lengthens S k r
   unfolding lengthens
