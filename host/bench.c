@@ -1,7 +1,7 @@
 /* The bench host: finds the command, and sees that all it printed was written. */
-#include "bench.h"
+#include "commands.h"
+#include "ending.h"
 
-#include <errno.h>
 #include <stdbool.h>
 #include <stdio.h>
 #include <string.h>
@@ -11,18 +11,6 @@ static const struct command *const commands[] = {
 };
 
 enum { COMMANDS = sizeof commands / sizeof commands[0] };
-
-int wrong_usage(const char *message)
-{
-    fprintf(stderr, "bench: %s; see bench --help\n", message);
-    return NOT_DONE;
-}
-
-int wrong_file(const char *name)
-{
-    fprintf(stderr, "bench: %s: %s\n", name, strerror(errno));
-    return NOT_DONE;
-}
 
 static void print_help(void)
 {

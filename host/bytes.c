@@ -1,7 +1,7 @@
 /* A list of bytes that grows, and reading into it. */
 #include "bytes.h"
 
-#include "bench.h"
+#include "ending.h"
 
 #include <stdlib.h>
 

@@ -1,6 +1,7 @@
 /* bench card: one card's book, into which frames are entered. */
-#include "bench.h"
 #include "book.h"
+#include "commands.h"
+#include "ending.h"
 #include "hex.h"
 #include "number.h"
 #include "refusals.h"

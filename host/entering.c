@@ -1,7 +1,9 @@
 /* Books entered word by word, under trial in a soak. */
+#include "entering.h"
+
 #include "fields.h"
 #include "path.h"
-#include "trial.h"
+#include "refusing.h"
 
 #include <string.h>
 

@@ -1,6 +1,7 @@
 /* Books filled by the library, under trial in a soak. */
+#include "filling.h"
+
 #include "path.h"
-#include "trial.h"
 
 /* The slot's word and vote: as dealt and as worked out afresh where it is
    live, else untouched. A number over 1,110 is not live. */

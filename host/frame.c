@@ -1,5 +1,6 @@
 /* bench frame: a frame made of its fields, or shown as its fields. */
-#include "bench.h"
+#include "commands.h"
+#include "ending.h"
 #include "fields.h"
 #include "hex.h"
 #include "number.h"

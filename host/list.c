@@ -1,6 +1,7 @@
 /* bench list: a listing file, listed by the library. */
-#include "bench.h"
 #include "bytes.h"
+#include "commands.h"
+#include "ending.h"
 #include "omh.h"
 #include "refusals.h"
 

@@ -1,7 +1,8 @@
 /* Enterings and frames that are refused, under trial in a soak. */
+#include "refusing.h"
+
 #include "fields.h"
 #include "spoiling.h"
-#include "trial.h"
 
 #include <string.h>
 

@@ -1,8 +1,9 @@
 /* bench soak: the library tried with random exchanges. */
-#include "bench.h"
+#include "commands.h"
+#include "ending.h"
 #include "number.h"
 #include "progress.h"
-#include "trial.h"
+#include "trying.h"
 
 #include <inttypes.h>
 #include <string.h>

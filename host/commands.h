@@ -1,0 +1,17 @@
+/* The commands of the bench host. */
+#ifndef COMMANDS_H
+#define COMMANDS_H
+
+struct command {
+    const char *name;
+    const char *purpose;    /* one line, for the list of commands */
+    const char *help;
+    int (*run)(int count, char **arguments);    /* without the command's name; answers an exit status */
+};
+
+extern const struct command list_command;
+extern const struct command frame_command;
+extern const struct command card_command;
+extern const struct command soak_command;
+
+#endif

@@ -1,0 +1,12 @@
+/* Books filled by the library, under trial in a soak. */
+#ifndef FILLING_H
+#define FILLING_H
+
+#include "book.h"
+#include "trial.h"
+
+/* A book filled by the library: live words as dealt one by one, live votes as
+   worked out afresh, other places untouched, the card's answer held. */
+bool filling_is_right(struct trial *trial, const struct settings *s);
+
+#endif
