@@ -1,11 +1,12 @@
 //! Document 01, "The exchange on the bench": exchanges good and bad, and what both programs
 //! make of them.
 
+use crate::compare::{compare, number_of};
+use crate::ffi;
 use crate::lent::Lent;
 use crate::random::Random;
 use crate::settings;
 use crate::words::{word, words};
-use crate::{compare, ffi, number_of};
 use second::exchange::{self, Exchange, PLACES};
 use second::paths::{Settings, CARDS};
 use second::words::{kind, Kind};

@@ -1,7 +1,8 @@
 //! Document 01, "The book": one book kept by both programs, compared after each call.
 
+use crate::compare::{compare, number_of};
+use crate::ffi;
 use crate::lent::Lent;
-use crate::{compare, ffi, number_of};
 use second::paths::Settings;
 use second::{book, frames, Refusal};
 use std::fmt::Arguments;

@@ -1,7 +1,6 @@
 //! Seven cards, some of them faulty: where good cards agreed, cell by cell, for the picture
 //! of the bound.
 
-use crate::drawing::draw;
 use crate::patterns::{Faults, Pattern, Promise};
 use crate::random::Random;
 use crate::tables::Limits;
@@ -37,12 +36,8 @@ pub struct Cell {
     pub trial: Trial,
 }
 
-/// The picture as SVG, of many tables or of few.
-pub fn picture(quick: bool) -> Result<String, String> {
-    let limits = match quick {
-        true => Limits { all: 64, drawn: 32 },
-        false => Limits { all: 4_096, drawn: 4_096 },
-    };
+/// Every cell, tried with so many tables.
+pub fn cells(limits: Limits) -> Result<Vec<Cell>, String> {
     let mut random = Random::new("picture");
     let mut cells = Vec::new();
     for m in ROUNDS_SHOWN {
@@ -50,7 +45,7 @@ pub fn picture(quick: bool) -> Result<String, String> {
             cells.push(cell(m, faults, limits, &mut random)?);
         }
     }
-    Ok(draw(&cells))
+    Ok(cells)
 }
 
 fn all_faults() -> impl Iterator<Item = Faults> {

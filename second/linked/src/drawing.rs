@@ -1,8 +1,8 @@
 //! The picture of the bound as SVG: a row of panels for each m, a panel for each a, a cell
 //! for each s and c.
 
+use crate::cells::{Cell, Class, MOST_FAULTY, N, ROUNDS_SHOWN};
 use crate::patterns::Faults;
-use crate::picture::{Cell, Class, MOST_FAULTY, N, ROUNDS_SHOWN};
 use std::fmt::Write;
 
 const CELL: usize = 30;

@@ -1,9 +1,10 @@
 //! Document 01, "Frames": frames good and damaged, and what both programs make of them.
 
+use crate::compare::{compare, number_of};
+use crate::ffi;
 use crate::lent::Lent;
 use crate::random::Random;
 use crate::words::word;
-use crate::{compare, ffi, number_of};
 use second::frames::{self, AgeClass, Record, FRAME_LENGTH, NO_RELAY};
 use second::paths::{path_at, Settings, CARDS, ROUNDS};
 

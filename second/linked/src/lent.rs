@@ -1,6 +1,6 @@
 //! Memory lent to both programs.
 
-use crate::compare;
+use crate::compare::compare;
 use std::fmt::{Arguments, Debug};
 
 /// Places before and after the library's list that no call may touch.

@@ -6,11 +6,13 @@
 //! at a time. A comparison yields 0 or the refusal's number, for a `Tally`.
 //!
 //! `soak` and `calls` are behind the program soak; `patterns`, `tables`, `trial`, `coverage`,
-//! `picture` and `drawing` behind the program coverage.
+//! `cells` and `drawing` behind the program coverage.
 
 pub mod bench;
 pub mod book;
 pub mod calls;
+pub mod cells;
+pub mod compare;
 pub mod coverage;
 pub mod drawing;
 pub mod ffi;
@@ -19,7 +21,6 @@ pub mod lent;
 pub mod listing;
 pub mod options;
 pub mod patterns;
-pub mod picture;
 pub mod progress;
 pub mod random;
 pub mod runs;
@@ -30,19 +31,3 @@ pub mod tally;
 pub mod trial;
 pub mod vote;
 pub mod words;
-
-use second::Refusal;
-use std::fmt::{Arguments, Debug};
-
-/// 0, or the refusal's number, as the library gives it.
-pub fn number_of<T>(outcome: &Result<T, Refusal>) -> u8 {
-    outcome.as_ref().err().copied().unwrap_or(0)
-}
-
-/// Ends the run where the two programs differ; `call` names the call and its whole input.
-pub fn compare<T: PartialEq + Debug>(call: Arguments, library: T, second: T) {
-    if library != second {
-        let seed = random::seed();
-        panic!("SEED={seed} {call}: library {library:x?}, second program {second:x?}");
-    }
-}

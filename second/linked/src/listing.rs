@@ -2,11 +2,12 @@
 //! programs make of them.
 
 use crate::bench::{ordinary, statuses};
+use crate::compare::compare;
+use crate::ffi;
 use crate::lent::Lent;
 use crate::random::Random;
 use crate::settings::all_rounds;
 use crate::words::words;
-use crate::{compare, ffi};
 use second::listing::listing;
 use second::paths::{slot_of_path, CARDS, SLOTS};
 

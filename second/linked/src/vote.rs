@@ -1,7 +1,8 @@
 //! Document 01, "The vote": one call of both programs.
 
+use crate::compare::{compare, number_of};
+use crate::ffi;
 use crate::lent::Lent;
-use crate::{compare, ffi, number_of};
 use second::paths::Settings;
 use second::vote;
 

@@ -1,7 +1,8 @@
 //! Document 01, "Words": single words and lists, and what both programs make of them.
 
+use crate::compare::compare;
+use crate::ffi;
 use crate::random::Random;
-use crate::{compare, ffi};
 use second::words::{self, E};
 
 /// The ends of the ranges that the document tells apart, those of 32 bits, and 0.

@@ -1,7 +1,7 @@
 //! A short soak, and what the soak tells of itself.
 
 use linked::calls::Calls;
-use linked::compare;
+use linked::compare::compare;
 use linked::soak::difference;
 use std::panic;
 use std::process::{Command, Output};

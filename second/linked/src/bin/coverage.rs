@@ -1,8 +1,9 @@
 //! The coverage of fault patterns: every pattern of few cards under many tables.
 
+use linked::cells::cells;
 use linked::coverage::Coverage;
+use linked::drawing::draw;
 use linked::options::Options;
-use linked::picture;
 use linked::progress::Progress;
 use linked::random::{self, Random};
 use linked::settings::all_rounds;
@@ -56,7 +57,7 @@ fn run(options: &Options) -> Result<String, String> {
         random::start_from(seed);
     }
     if options.has("--picture") {
-        return picture::picture(options.has("--quick"));
+        return picture(options.has("--quick"));
     }
     let mut progress = Progress::new(options.has("--progress"));
     let coverage = cover(options.has("--quick"), &mut progress);
@@ -64,6 +65,15 @@ fn run(options: &Options) -> Result<String, String> {
     let coverage = coverage?;
     let seed = random::seed();
     Ok(format!("{}\n{}\nseed {seed}, every promise kept\n", coverage.table(), coverage.summary()))
+}
+
+/// The picture as SVG, of many tables or of few.
+fn picture(quick: bool) -> Result<String, String> {
+    let limits = match quick {
+        true => Limits { all: 64, drawn: 32 },
+        false => Limits { all: 4_096, drawn: 4_096 },
+    };
+    Ok(draw(&cells(limits)?))
 }
 
 fn cover(quick: bool, progress: &mut Progress) -> Result<Coverage, String> {
