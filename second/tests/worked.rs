@@ -1,5 +1,21 @@
-//! Document 01's section "Worked by hand" and the rules around it, run case by case.
+//! Document 01's section "Worked by hand" and the rules around it, run case by case. The
+//! tables in `cases` are run by the package `linked` too, with both programs.
 
+mod cases {
+    pub mod exchanges;
+    pub mod frames;
+    pub mod listings;
+    pub mod paths;
+    pub mod votes;
+    pub mod words;
+}
+
+use cases::exchanges::{hold_books, hold_exchanges};
+use cases::frames::{hold_ages, hold_reading, hold_writing};
+use cases::listings::{bytes_of, hold_listings, EXAMPLE, EXAMPLE_LISTING};
+use cases::paths::PATHS;
+use cases::votes::hold_votes;
+use cases::words::{hold_majorities, hold_words, WORDS};
 use second::book;
 use second::exchange::{self, bound_holds, Exchange, PLACES};
 use second::frames::{self, age, age_class, next_exchange, AgeClass, Record};
@@ -100,52 +116,15 @@ fn all_answers(exchange: &Exchange) -> Vec<i32> {
 // Words
 
 #[test]
-fn worked_readings() {
-    assert_eq!(read_at(0, 999_999_999), 999_999_999);
-    assert_eq!(read_at(0, -1_000_000_000), E);
-    assert_eq!(read_at(0, 1_000_000_001), E);
-    assert_eq!(read_at(1, 1_000_000_001), 1_000_000_001);
+fn worked_words() {
+    for (word, kind_of, ..) in WORDS {
+        assert_eq!(kind(word), kind_of, "{word}");
+    }
+    hold_words(read_at, wrap, unwrap);
 }
 
 #[test]
-fn range_ends_at_all_levels() {
-    let always = [-999_999_999, -999_999_998, -1, 0, 1, 999_999_998, 999_999_999, E];
-    let never = [
-        i32::MIN,
-        i32::MIN + 1,
-        -1_000_000_003,
-        -1_000_000_002,
-        -1_000_000_001,
-        -1_000_000_000,
-        1_000_000_004,
-        1_000_000_005,
-        i32::MAX - 1,
-        i32::MAX,
-    ];
-    for level in [0, 1, 2, 3, 4, 5, 1_000, usize::MAX] {
-        for word in always {
-            assert_eq!(read_at(level, word), word);
-        }
-        for word in never {
-            assert_eq!(kind(word), Kind::Bad);
-            assert_eq!(read_at(level, word), E);
-        }
-        assert_eq!(read_at(level, E1), if level >= 1 { E1 } else { E });
-        assert_eq!(read_at(level, E2), if level >= 2 { E2 } else { E });
-        assert_eq!(read_at(level, E3), if level >= 3 { E3 } else { E });
-    }
-}
-
-#[test]
-fn wrapping_and_unwrapping() {
-    for word in [-999_999_999, -1, 0, 1, 999_999_999] {
-        assert_eq!((wrap(word), unwrap(word)), (word, word));
-    }
-    for word in [i32::MIN, -1_000_000_000, 1_000_000_004, i32::MAX] {
-        assert_eq!((wrap(word), unwrap(word)), (E, E));
-    }
-    assert_eq!([E, E1, E2, E3].map(wrap), [E1, E2, E3, E]);
-    assert_eq!([E, E1, E2, E3].map(unwrap), [E, E, E1, E2]);
+fn unwrapping_undoes_wrapping() {
     let mut random = Random(11);
     for word in random.words(200) {
         for level in 0..=2 {
@@ -158,19 +137,11 @@ fn wrapping_and_unwrapping() {
 
 #[test]
 fn worked_majorities() {
-    assert_eq!(majority(&[5, 5, 7]), 5);
-    assert_eq!(majority(&[5, 7]), E);
-    assert_eq!(majority(&[5, E, E]), 5);
-    assert_eq!(majority(&[]), E);
-    assert_eq!(majority(&[1_000_000_001, 1_000_000_001, 4, E]), 1_000_000_001);
+    hold_majorities(majority);
 }
 
 #[test]
 fn majority_needs_more_than_half() {
-    assert_eq!(majority(&[E, E, E]), E);
-    assert_eq!(majority(&[5, 5, 7, 8]), E);
-    assert_eq!(majority(&[5, 5, 5, 7, 8]), 5);
-    assert_eq!(majority(&[i32::MIN, E, i32::MIN, i32::MAX]), i32::MIN);
     let mut random = Random(12);
     for _ in 0..20_000 {
         let length = random.below(10);
@@ -187,10 +158,15 @@ fn majority_needs_more_than_half() {
 
 #[test]
 fn worked_slots() {
-    assert_eq!(slot_of(3, [7, 2, 9]), Ok(840));
-    assert_eq!(slot_above(840), Ok(83));
-    assert_eq!(slot_above(83), Ok(8));
-    assert_eq!(slot_above(8), Ok(0));
+    for (level, relays, slot, above) in PATHS {
+        assert_eq!(slot_of(level.into(), relays.map(usize::from)), Ok(slot));
+        let mut left = slot;
+        for &next in above {
+            left = slot_above(left).unwrap();
+            assert_eq!(left, next, "above {slot}");
+        }
+        assert_eq!(left, 0, "the last above {slot}");
+    }
 }
 
 #[test]
@@ -214,7 +190,11 @@ fn every_slot_has_its_path() {
     for slot in [0, 1_111, usize::MAX] {
         assert_eq!(slot_above(slot), Err(8));
     }
-    assert_eq!(slot_above(1_110), Ok(110));
+    // The ends of the levels; those of levels 2 and 3 repeat a card.
+    let ends = [1, 10, 11, 110, 111, 1_110];
+    assert_eq!(ends.map(slot_above), [0, 0, 1, 10, 11, 110].map(Ok));
+    let paths: [&[usize]; 6] = [&[0], &[9], &[0, 0], &[9, 9], &[0, 0, 0], &[9, 9, 9]];
+    assert_eq!(paths.map(slot_of_path), ends.map(Ok));
     assert_eq!((path_at(1_111), path_at(usize::MAX)), (None, None));
 }
 
@@ -299,19 +279,8 @@ fn votes_are_refused_in_order() {
 }
 
 #[test]
-fn the_vote_counts_the_own_report_once() {
-    let mut words = [E; SLOTS];
-    (words[0], words[3], words[4]) = (10, 99, 99);
-    assert_eq!(vote::answer(FOUR, &words), Ok(99));
-    words[4] = 10;
-    assert_eq!(vote::answer(FOUR, &words), Ok(10));
-    assert_eq!(vote::vote_at(FOUR, &words, 3), Ok(99));
-    (words[0], words[3], words[4]) = (E1, E1, E2);
-    assert_eq!(vote::answer(FOUR, &words), Ok(E), "wrapped missing has the majority");
-    (words[3], words[4]) = (E2, 99);
-    assert_eq!(vote::answer(FOUR, &words), Ok(E), "one report each of E1 and 99");
-    words[0] = 99;
-    assert_eq!(vote::answer(FOUR, &words), Ok(99));
+fn worked_votes() {
+    hold_votes(vote::vote_at);
 }
 
 #[test]
@@ -440,19 +409,16 @@ fn book_calls_are_refused_in_order_and_change_nothing() {
 
 #[test]
 fn worked_ages() {
-    assert_eq!(age(3, 65_534), 5);
-    assert_eq!(age_class(5), AgeClass::Old);
-    assert_eq!(age(65_535, 0), 65_535);
-    assert_eq!(age_class(65_535), AgeClass::Ahead);
-    assert_eq!(age_class(32_767), AgeClass::Old);
-    assert_eq!(age_class(32_768), AgeClass::Ahead);
-    assert_eq!(age_class(0), AgeClass::Current);
-    assert_eq!(age_class(1), AgeClass::Old);
+    hold_ages(
+        |current, frame| (age(current, frame), age_class(age(current, frame))),
+        next_exchange,
+    );
+    assert_eq!([0, 1, 32_767].map(age_class), [AgeClass::Current, AgeClass::Old, AgeClass::Old]);
+    assert_eq!([32_768, 65_535].map(age_class), [AgeClass::Ahead; 2]);
 }
 
 #[test]
 fn exchange_numbers_run_free() {
-    assert_eq!([0, 1, 65_534, 65_535].map(next_exchange), [1, 2, 65_535, 0]);
     for number in 0..=u16::MAX {
         assert_eq!(age(next_exchange(number), number), 1);
         assert_eq!(age(number, next_exchange(number)), 65_535);
@@ -470,6 +436,12 @@ const RECORD: Record = Record {
 };
 
 const FRAME: [u8; 17] = [79, 77, 72, 0, 1, 2, 3, 0, 1, 2, 255, 255, 1, 0xFF, 0xFF, 0xFF, 0x88];
+
+#[test]
+fn worked_frames() {
+    hold_reading(frames::read);
+    hold_writing(|record, mut buffer| frames::write(record, &mut buffer).map(|()| buffer));
+}
 
 #[test]
 fn frames_are_laid_out_as_written_down() {
@@ -635,73 +607,19 @@ fn entering_frames_is_refused_in_order() {
 // The exchange on the bench
 
 #[test]
-fn worked_example_against_algorithm_z() {
-    let statuses = [3, 0, 0, 0, 1, 0, 0, 0, 0, 0];
-    let table = table_with(&[(5, 1, 11), (5, 2, 12), (5, 3, 13)]);
-    let e = Exchange { n: 5, m: 1, t: 0, x: 1, statuses: &statuses, table: &table };
-    assert_eq!(all_answers(&e)[1..4], [E, E, E]);
-    assert_eq!(exchange::word(&e, 2, 5), Ok(12));
-    assert_eq!(exchange::word(&e, 2, 4), Ok(E1));
-    assert_eq!(exchange::word(&e, 2, 0), Ok(E));
-    assert_eq!(bound_holds(5, 1, &statuses), Ok(true));
-}
-
-#[test]
-fn worked_arbitrary_sender() {
-    let statuses = [1, 0, 0, 0, 0, 0, 0, 0, 0, 0];
-    for (last, expected) in [(20, E), (10, 10)] {
-        let table = table_with(&[(0, 1, 10), (0, 2, last), (0, 3, 30)]);
-        let e = Exchange { n: 4, m: 1, t: 0, x: 1, statuses: &statuses, table: &table };
-        assert_eq!(all_answers(&e)[1..], [expected; 3]);
-    }
-    assert_eq!(bound_holds(4, 1, &statuses), Ok(true));
-}
-
-#[test]
-fn worked_three_cards() {
-    let statuses = [0, 0, 1, 0, 0, 0, 0, 0, 0, 0];
-    let table = table_with(&[(3, 1, 99)]);
-    let e = Exchange { n: 3, m: 1, t: 0, x: 10, statuses: &statuses, table: &table };
-    assert_eq!(exchange::answer(&e, 1), Ok(E));
-    assert_eq!(bound_holds(3, 1, &statuses), Ok(false));
-}
-
-#[test]
-fn worked_without_relays() {
-    let statuses = [0, 0, 1, 0, 0, 0, 0, 0, 0, 0];
-    let table = table_with(&[(0, 0, 1), (0, 1, 2), (0, 2, 3), (0, 3, E1), (0, 4, i32::MIN)]);
-    let e = Exchange { n: 5, m: 0, t: 2, x: 10, statuses: &statuses, table: &table };
-    assert_eq!(all_answers(&e), [1, 2, 3, E, E]);
-    assert_eq!(bound_holds(5, 0, &statuses), Ok(false), "a is over m");
-}
-
-#[test]
-fn worked_single_card() {
-    let table = table_with(&[]);
-    for x in [-999_999_999, -120, 0, 999_999_999] {
-        let e = Exchange { n: 1, m: 0, t: 0, x, statuses: &[0; 10], table: &table };
-        assert_eq!(all_answers(&e), [x]);
-    }
-    assert_eq!(bound_holds(1, 0, &[0; 10]), Ok(true));
+fn worked_exchanges() {
+    hold_exchanges(
+        |e, mut list| exchange::answers(e, &mut list).map(|()| list.to_vec()),
+        exchange::answer,
+        bound_holds,
+    );
 }
 
 #[test]
 fn each_status_sends_its_word() {
-    let table: Vec<i32> = (0..PLACES as i32).collect();
-    let statuses = [0, 0, 1, 2, 3, 0, 0, 0, 0, 0];
-    let e = Exchange { n: 6, m: 2, t: 0, x: -7, statuses: &statuses, table: &table };
-    let word = |p, path: &[usize]| exchange::word(&e, p, slot_of_path(path).unwrap());
-    assert_eq!(word(0, &[]), Ok(-7));
-    assert_eq!(word(5, &[1]), Ok(-7));
-    assert_eq!(word(5, &[2]), Ok(35), "slot 3, receiver 5");
-    assert_eq!(word(5, &[3]), Ok(40), "slot 4, receiver 0");
-    assert_eq!(word(5, &[4]), Ok(E));
-    assert_eq!(word(5, &[2, 1]), Ok(31), "what card 1 received at slot 3");
-    assert_eq!(word(5, &[3, 1]), Ok(40));
-    assert_eq!(word(5, &[4, 1]), Ok(E1));
-    assert_eq!(word(1, &[5, 2]), Ok(631), "slot 63, receiver 1");
-    assert_eq!(word(1, &[5, 3]), Ok(640), "slot 64, receiver 0");
-    assert_eq!(word(1, &[2, 4]), Ok(E));
+    hold_books(exchange::word, |e, p, [mut words, mut votes]| {
+        exchange::fill_book(e, p, &mut words, &mut votes).map(|()| [words, votes])
+    });
 }
 
 /// A random exchange among 1 to 10 cards; faulty cards send any words.
@@ -846,21 +764,10 @@ fn the_bench_refuses_lists_of_another_length() {
 
 // The listing program
 
-const EXAMPLE: &str = "4F4D58 0001 04 01 00 00000001000000000000 FFFFFF88 0002 \
-                       0004 01 000001F4 0004 02 000002BC";
-
-const EXAMPLE_LISTING: &str = "0 0 -120\n1 0 -120\n2 0 -120\n3 1 -120\nbound held\n";
-
-fn bytes_of(digits: &str) -> Vec<u8> {
-    let digits: Vec<u32> = digits.chars().filter_map(|digit| digit.to_digit(16)).collect();
-    digits.chunks(2).map(|pair| (16 * pair[0] + pair[1]) as u8).collect()
-}
-
 #[test]
-fn worked_listing() {
-    let file = bytes_of(EXAMPLE);
-    assert_eq!(file.len(), 38);
-    assert_eq!(listing(&file), EXAMPLE_LISTING);
+fn worked_listings() {
+    assert_eq!(bytes_of(EXAMPLE).len(), 38);
+    hold_listings(listing);
 }
 
 /// What the program prints for a file and for arguments, and whether it ended well.

@@ -10,6 +10,7 @@ use crate::words::{word, words};
 use second::exchange::{self, Exchange, PLACES};
 use second::paths::{Settings, CARDS};
 use second::words::{kind, Kind};
+use second::Refusal;
 use std::fmt::Arguments;
 
 /// An exchange that both programs are lent.
@@ -61,6 +62,12 @@ impl Bench {
         Bench { n, m, t, x, statuses: Lent::new(statuses), table: Lent::new(table) }
     }
 
+    /// The exchange that is given.
+    pub fn of(exchange: &Exchange) -> Self {
+        let Exchange { n, m, t, x, statuses, table } = *exchange;
+        Bench::new((n, m, t), x, statuses.to_vec(), table.to_vec())
+    }
+
     /// An exchange that no call refuses.
     pub fn good(random: &mut Random, n: usize, m: usize, t: usize) -> Self {
         let table = words(random, PLACES);
@@ -78,47 +85,50 @@ impl Bench {
     }
 
     /// The word for card p at a slot; `before` is what the lent place holds before the call.
-    pub fn word_for(&self, p: usize, slot: usize, before: i32) -> u8 {
+    pub fn word_for(&self, p: usize, slot: usize, before: i32) -> Result<i32, Refusal> {
         let mut word = Lent::new(vec![before]);
         let number = ffi::word_for(&self.library(), p, slot, &mut word.library_mut()[0]);
         let second = exchange::word(&self.second(), p, slot);
         word.second_mut()[0] = second.unwrap_or(before);
         let call = format_args!("word_for p {p:x} slot {slot:x} place {before:x}");
-        self.compare(call, (number, number_of(&second)), &[&word])
+        self.compare(call, (number, number_of(&second)), &[&word]);
+        second
     }
 
-    pub fn answer_for(&self, p: usize, before: i32) -> u8 {
+    pub fn answer_for(&self, p: usize, before: i32) -> Result<i32, Refusal> {
         let mut answer = Lent::new(vec![before]);
         let number = ffi::answer_for(&self.library(), p, &mut answer.library_mut()[0]);
         let second = exchange::answer(&self.second(), p);
         answer.second_mut()[0] = second.unwrap_or(before);
         let call = format_args!("answer_for p {p:x} place {before:x}");
-        self.compare(call, (number, number_of(&second)), &[&answer])
+        self.compare(call, (number, number_of(&second)), &[&answer]);
+        second
     }
 
-    /// All answers, in a list that holds `before`.
-    pub fn all_answers(&self, before: &[i32]) -> u8 {
+    /// All answers, in a list that holds `before`; yields what it holds then.
+    pub fn all_answers(&self, before: &[i32]) -> Result<Vec<i32>, Refusal> {
         let mut answers = Lent::new(before.to_vec());
         let number = ffi::all_answers(&self.library(), answers.library_mut());
         let second = exchange::answers(&self.second(), answers.second_mut());
         let call = format_args!("all_answers list {before:x?}");
-        let number = self.compare(call, (number, number_of(&second)), &[&answers]);
+        self.compare(call, (number, number_of(&second)), &[&answers]);
         let kept = answers.second() == before;
         assert!(number == 0 || kept, "{call}: a refusal changed the list");
-        number
+        second.map(|()| answers.second().to_vec())
     }
 
-    /// A book filled for card p that holds these words and votes before the call.
-    pub fn fill(&self, p: usize, words: &[i32], votes: &[i32]) -> u8 {
+    /// A book filled for card p that holds these words and votes before the call; yields
+    /// those that it holds then.
+    pub fn fill(&self, p: usize, words: &[i32], votes: &[i32]) -> Result<[Vec<i32>; 2], Refusal> {
         let mut book = [Lent::new(words.to_vec()), Lent::new(votes.to_vec())];
         let [w, v] = &mut book;
         let number = ffi::fill(&self.library(), p, w.library_mut(), v.library_mut());
         let second = exchange::fill_book(&self.second(), p, w.second_mut(), v.second_mut());
         let call = format_args!("fill p {p:x} words {words:x?} votes {votes:x?}");
-        let number = self.compare(call, (number, number_of(&second)), &[&book[0], &book[1]]);
+        self.compare(call, (number, number_of(&second)), &[&book[0], &book[1]]);
         let kept = book[0].second() == words && book[1].second() == votes;
         assert!(number == 0 || kept, "{call}: a refusal changed the book");
-        number
+        second.map(|()| book.map(|list| list.second().to_vec()))
     }
 
     fn library(&self) -> Exchange<'_> {
@@ -132,7 +142,7 @@ impl Bench {
     }
 
     /// Compares the numbers, the lists that a call wrote, and those that it only read.
-    fn compare(&self, call: Arguments, numbers: (u8, u8), written: &[&Lent<i32>]) -> u8 {
+    fn compare(&self, call: Arguments, numbers: (u8, u8), written: &[&Lent<i32>]) {
         let given = self.second();
         let call = format_args!("{call} {given:x?}");
         compare(call, numbers.0, numbers.1);
@@ -141,13 +151,11 @@ impl Bench {
         }
         self.statuses.compare("statuses", call);
         self.table.compare("table", call);
-        numbers.0
     }
 }
 
-/// Whether the bound holds; `before` is what the lent place holds before the call. Yields
-/// the number and what the place holds after it.
-pub fn bound(n: usize, m: usize, statuses: &[u8], before: i32) -> (u8, i32) {
+/// Whether the bound holds; `before` is what the lent place holds before the call.
+pub fn bound(n: usize, m: usize, statuses: &[u8], before: i32) -> Result<bool, Refusal> {
     let lent = Lent::new(statuses.to_vec());
     let mut held = Lent::new(vec![before]);
     let number = ffi::bound(n, m, lent.library(), &mut held.library_mut()[0]);
@@ -157,5 +165,5 @@ pub fn bound(n: usize, m: usize, statuses: &[u8], before: i32) -> (u8, i32) {
     compare(call, number, number_of(&second));
     held.compare("held", call);
     lent.compare("statuses", call);
-    (number, held.second()[0])
+    second
 }

@@ -18,7 +18,7 @@ impl Book {
         Book { words: Lent::new(words), votes: Lent::new(votes) }
     }
 
-    pub fn open(&mut self, settings: Settings) -> u8 {
+    pub fn open(&mut self, settings: Settings) -> Result<(), Refusal> {
         self.call(
             format_args!("open {settings:x?}"),
             |words, votes| ffi::open(settings, words, votes),
@@ -26,7 +26,7 @@ impl Book {
         )
     }
 
-    pub fn enter(&mut self, settings: Settings, slot: usize, word: i32) -> u8 {
+    pub fn enter(&mut self, settings: Settings, slot: usize, word: i32) -> Result<(), Refusal> {
         self.call(
             format_args!("enter {settings:x?} slot {slot:x} word {word:x}"),
             |words, votes| ffi::enter(settings, words, votes, slot, word),
@@ -34,7 +34,7 @@ impl Book {
         )
     }
 
-    pub fn refill(&mut self, settings: Settings) -> u8 {
+    pub fn refill(&mut self, settings: Settings) -> Result<(), Refusal> {
         self.call(
             format_args!("refill {settings:x?}"),
             |words, votes| ffi::refill(settings, words, votes),
@@ -42,20 +42,25 @@ impl Book {
         )
     }
 
-    pub fn enter_frame(&mut self, settings: Settings, current: u16, frame: &[u8]) -> u8 {
+    pub fn enter_frame(
+        &mut self,
+        settings: Settings,
+        current: u16,
+        frame: &[u8],
+    ) -> Result<(), Refusal> {
         let lent = Lent::new(frame.to_vec());
         let call = format_args!("enter_frame {settings:x?} current {current:x} {frame:02x?}");
-        let number = self.call(
+        let outcome = self.call(
             call,
             |words, votes| ffi::enter_frame(settings, words, votes, current, lent.library()),
             |words, votes| frames::enter_frame(settings, words, votes, current, lent.second()),
         );
         lent.compare("frame", call);
-        number
+        outcome
     }
 
     /// The held answer; `before` is what the lent place holds before the call.
-    pub fn held_answer(&mut self, before: i32) -> u8 {
+    pub fn held_answer(&self, before: i32) -> Result<i32, Refusal> {
         let mut answer = Lent::new(vec![before]);
         let (words, votes) = (&self.words, &self.votes);
         let place = &mut answer.library_mut()[0];
@@ -68,7 +73,17 @@ impl Book {
         answer.compare("answer", call);
         words.compare("words", call);
         votes.compare("votes", call);
-        number
+        second
+    }
+
+    /// The words received, as both programs have them.
+    pub fn words(&self) -> &[i32] {
+        self.words.second()
+    }
+
+    /// The votes held, likewise.
+    pub fn votes(&self) -> &[i32] {
+        self.votes.second()
     }
 
     /// Makes a call in both programs and compares the outcome and both lists, which a
@@ -78,7 +93,7 @@ impl Book {
         call: Arguments,
         library: impl FnOnce(&mut [i32], &mut [i32]) -> u8,
         second: impl FnOnce(&mut [i32], &mut [i32]) -> Result<(), Refusal>,
-    ) -> u8 {
+    ) -> Result<(), Refusal> {
         let before = (self.words.second().to_vec(), self.votes.second().to_vec());
         let number = library(self.words.library_mut(), self.votes.library_mut());
         let second = second(self.words.second_mut(), self.votes.second_mut());
@@ -88,6 +103,6 @@ impl Book {
         self.votes.compare("votes", call);
         let kept = self.words.second() == before.0 && self.votes.second() == before.1;
         assert!(number == 0 || kept, "{call}: a refusal changed the book");
-        number
+        second
     }
 }

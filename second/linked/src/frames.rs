@@ -7,6 +7,7 @@ use crate::random::Random;
 use crate::words::word;
 use second::frames::{self, AgeClass, Record, FRAME_LENGTH, NO_RELAY};
 use second::paths::{path_at, Settings, CARDS, ROUNDS};
+use second::Refusal;
 
 /// A frame's bytes, whether it is well formed or not.
 pub fn frame_of(record: &Record) -> [u8; FRAME_LENGTH] {
@@ -78,26 +79,33 @@ pub fn damage(random: &mut Random, frame: &mut Vec<u8>) {
     }
 }
 
-pub fn next_exchange(number: u16) {
-    let call = format_args!("next_exchange {number:x}");
-    compare(call, ffi::next_exchange(number), frames::next_exchange(number));
+pub fn next_exchange(number: u16) -> u16 {
+    let second = frames::next_exchange(number);
+    compare(format_args!("next_exchange {number:x}"), ffi::next_exchange(number), second);
+    second
 }
 
-/// The age and its class: 0, or the number with which a frame of this age is refused.
-pub fn age(current: u16, frame: u16) -> u8 {
+/// The age and its class.
+pub fn age(current: u16, frame: u16) -> (u16, AgeClass) {
     let age = frames::age(current, frame);
-    let class = match frames::age_class(age) {
+    let class = frames::age_class(age);
+    let library = (ffi::age(current, frame), ffi::age_class(current, frame));
+    let second = (age, class_number(class));
+    compare(format_args!("age current {current:x} frame {frame:x}"), library, second);
+    (age, class)
+}
+
+/// 0, or the number with which a frame of this class is refused.
+pub fn class_number(class: AgeClass) -> u8 {
+    match class {
         AgeClass::Current => 0,
         AgeClass::Old => 12,
         AgeClass::Ahead => 13,
-    };
-    let library = (ffi::age(current, frame), ffi::age_class(current, frame));
-    compare(format_args!("age current {current:x} frame {frame:x}"), library, (age, class));
-    class
+    }
 }
 
 /// Reads a frame; `before` is what the lent places hold before the call.
-pub fn read(frame: &[u8], before: [i32; ffi::FIELDS]) -> u8 {
+pub fn read(frame: &[u8], before: [i32; ffi::FIELDS]) -> Result<Record, Refusal> {
     let mut fields = Lent::new(before.to_vec());
     let lent = Lent::new(frame.to_vec());
     let places = fields.library_mut().try_into().expect("as many places as fields");
@@ -110,7 +118,7 @@ pub fn read(frame: &[u8], before: [i32; ffi::FIELDS]) -> u8 {
     compare(call, number, number_of(&second));
     fields.compare("fields", call);
     lent.compare("frame", call);
-    number
+    second
 }
 
 /// In the order of host/omh.h.
@@ -121,8 +129,8 @@ fn fields_of(record: &Record) -> [i32; ffi::FIELDS] {
     [i32::from(exchange), sender, level, q1, q2, q3, receiver, word]
 }
 
-/// Writes a frame into a buffer that holds `before`.
-pub fn write(record: &Record, before: &[u8]) -> u8 {
+/// Writes a frame into a buffer that holds `before`; yields what it holds then.
+pub fn write(record: &Record, before: &[u8]) -> Result<Vec<u8>, Refusal> {
     let mut buffer = Lent::new(before.to_vec());
     let number = ffi::write_frame(record, buffer.library_mut());
     let second = frames::write(record, buffer.second_mut());
@@ -131,5 +139,5 @@ pub fn write(record: &Record, before: &[u8]) -> u8 {
     buffer.compare("buffer", call);
     let kept = buffer.second() == before;
     assert!(number == 0 || kept, "{call}: a refusal changed the buffer");
-    number
+    second.map(|()| buffer.second().to_vec())
 }

@@ -3,7 +3,8 @@
 //!
 //! `ffi` is the library and `random` the numbers behind every input. The modules named
 //! after a part of document 01 make that part's inputs, good and bad, and compare one call
-//! at a time. A comparison yields 0 or the refusal's number, for a `Tally`.
+//! at a time. A comparison yields what both programs gave, for a test to hold to a number
+//! or a `Tally` to count.
 //!
 //! `soak` and `calls` are behind the program soak; `patterns`, `tables`, `trial`, `coverage`,
 //! `cells` and `drawing` behind the program coverage.

@@ -10,6 +10,7 @@ use crate::settings::all_rounds;
 use crate::words::words;
 use second::listing::listing;
 use second::paths::{slot_of_path, CARDS, SLOTS};
+use second::Refusal;
 
 pub const HEAD: usize = 24;
 pub const EXCEPTION: usize = 7;
@@ -107,9 +108,9 @@ pub fn garbage(random: &mut Random) -> Vec<u8> {
     file
 }
 
-/// The text of a file, which both programs give; `before` is what the lent places hold
-/// before the call.
-pub fn list(file: &[u8], before: &[u8; ffi::TEXT]) -> String {
+/// The text of a file, which both programs give, or the number that it tells; `before` is
+/// what the lent places hold before the call.
+pub fn list(file: &[u8], before: &[u8; ffi::TEXT]) -> Result<String, Refusal> {
     let lent = Lent::new(file.to_vec());
     let mut text = Lent::new(before.to_vec());
     let places = text.library_mut().try_into().expect("as many places as a text needs");
@@ -120,11 +121,10 @@ pub fn list(file: &[u8], before: &[u8; ffi::TEXT]) -> String {
     compare(call, length, second.len());
     text.compare("text", call);
     lent.compare("file", call);
-    second
+    refusal_in(&second).map_or(Ok(second), Err)
 }
 
-/// The number in a text, 0 where nothing is refused.
-pub fn refusal_in(text: &str) -> u8 {
-    let number = text.strip_prefix("refused ").and_then(|rest| rest.trim_end().parse().ok());
-    number.unwrap_or(0)
+/// The number in the text of a refusal.
+fn refusal_in(text: &str) -> Option<Refusal> {
+    text.strip_prefix("refused ").and_then(|rest| rest.strip_suffix('\n')?.parse().ok())
 }

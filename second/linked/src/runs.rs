@@ -46,7 +46,7 @@ impl<'a> Run<'a> {
         let settings = of_rounds(random, n, m);
         let mut book = Book::new(words(random, SLOTS), words(random, SLOTS));
         if random.one_in(2) {
-            outcomes.open.add(book.open(settings));
+            outcomes.open.count(book.open(settings));
         }
         let (words, current) = (words(random, 64), random.bits() as u16);
         let live = live_slots(settings);
@@ -62,7 +62,7 @@ impl<'a> Run<'a> {
             self.enter_frame();
         } else {
             let (settings, slot, word) = (self.settings(), self.slot(), self.word());
-            self.outcomes.enter.add(self.book.enter(settings, slot, word));
+            self.outcomes.enter.count(self.book.enter(settings, slot, word));
         }
     }
 
@@ -75,20 +75,20 @@ impl<'a> Run<'a> {
                 damage(self.random, &mut frame);
             }
         }
-        let number = self.book.enter_frame(settings, self.current, &frame);
-        self.outcomes.enter_frame.add(number);
+        let outcome = self.book.enter_frame(settings, self.current, &frame);
+        self.outcomes.enter_frame.count(outcome);
     }
 
     fn other_call(&mut self) {
         let settings = self.settings();
         match self.random.below(16) {
-            0 => self.outcomes.open.add(self.book.open(settings)),
-            1..=3 => self.outcomes.refill.add(self.book.refill(settings)),
+            0 => self.outcomes.open.count(self.book.open(settings)),
+            1..=3 => self.outcomes.refill.count(self.book.refill(settings)),
             4..=5 => self.current = self.current.wrapping_add(1),
             6..=8 => self.call_with_other_lengths(),
             _ => {
                 let before = word(self.random);
-                self.outcomes.held_answer.add(self.book.held_answer(before));
+                self.outcomes.held_answer.count(self.book.held_answer(before));
             }
         }
     }
@@ -101,12 +101,12 @@ impl<'a> Run<'a> {
         self.random.shuffle(&mut lengths);
         let [words, votes] = lengths.map(|length| words(self.random, length));
         let mut book = Book::new(words, votes);
-        self.outcomes.open.add(book.open(settings));
-        self.outcomes.enter.add(book.enter(settings, slot, word));
-        self.outcomes.refill.add(book.refill(settings));
-        self.outcomes.held_answer.add(book.held_answer(word));
-        let number = book.enter_frame(settings, self.current, &frame_of(&record));
-        self.outcomes.enter_frame.add(number);
+        self.outcomes.open.count(book.open(settings));
+        self.outcomes.enter.count(book.enter(settings, slot, word));
+        self.outcomes.refill.count(book.refill(settings));
+        self.outcomes.held_answer.count(book.held_answer(word));
+        let outcome = book.enter_frame(settings, self.current, &frame_of(&record));
+        self.outcomes.enter_frame.count(outcome);
     }
 
     /// The run's own settings; one time in sixteen any.

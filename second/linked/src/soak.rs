@@ -7,7 +7,7 @@ use crate::calls::Calls;
 use crate::ffi::{FIELDS, TEXT};
 use crate::frames::{self, any_record, frame_of, record_for};
 use crate::lent::Lent;
-use crate::listing::{self, list, refusal_in};
+use crate::listing::{self, list};
 use crate::random::{self, Random};
 use crate::runs::Run;
 use crate::settings::{all_rounds, any, any_slot};
@@ -93,10 +93,13 @@ impl Soak {
             let current = random.bits() as u16;
             frames::next_exchange(current);
             self.calls.next_exchange.add(0);
-            self.calls.age.add(frames::age(current, random.bits() as u16));
+            let any = random.bits() as u16;
             let near = current.wrapping_add(random.pick(&[0, 1 << 15]));
             let near = near.wrapping_add(random.below(5) as u16).wrapping_sub(2);
-            self.calls.age.add(frames::age(current, near));
+            for frame in [any, near] {
+                let (_, class) = frames::age(current, frame);
+                self.calls.age.add(frames::class_number(class));
+            }
         }
     }
 
@@ -110,9 +113,9 @@ impl Soak {
                 frames::damage(random, &mut frame);
             }
             let before = [(); FIELDS].map(|()| random.bits() as i32);
-            self.calls.read_frame.add(frames::read(&frame, before));
+            self.calls.read_frame.count(frames::read(&frame, before));
             let length = random.length(FRAME_LENGTH);
-            self.calls.write_frame.add(frames::write(&record, &random.bytes(length)));
+            self.calls.write_frame.count(frames::write(&record, &random.bytes(length)));
         }
     }
 
@@ -123,7 +126,7 @@ impl Soak {
         let list = Lent::new(words::words(random, length));
         for _ in 0..20 {
             let (settings, slot, before) = (any(random), any_slot(random), word(random));
-            self.calls.vote_at.add(vote_at(settings, &list, slot, before).0);
+            self.calls.vote_at.count(vote_at(settings, &list, slot, before));
         }
     }
 
@@ -147,13 +150,13 @@ impl Soak {
         let (mut book, books) = (Book::new(words, votes), &mut self.calls.books);
         for _ in 0..4 {
             let (slot, before) = (any_slot(random), word(random));
-            books.enter.add(book.enter(any(random), slot, before));
-            books.held_answer.add(book.held_answer(before));
-            books.refill.add(book.refill(any(random)));
+            books.enter.count(book.enter(any(random), slot, before));
+            books.held_answer.count(book.held_answer(before));
+            books.refill.count(book.refill(any(random)));
             let (slot, current) = (random.below(1 + CARDS), random.bits() as u16);
             let frame = frame_of(&record_for(any(random), current, slot, before));
-            books.enter_frame.add(book.enter_frame(any(random), current, &frame));
-            books.open.add(book.open(any(random)));
+            books.enter_frame.count(book.enter_frame(any(random), current, &frame));
+            books.open.count(book.open(any(random)));
         }
     }
 
@@ -163,7 +166,7 @@ impl Soak {
             let settings = any(random);
             let list = any_statuses(random, settings.n);
             let before = word(random);
-            self.calls.bound.add(bound(settings.n, settings.m, &list, before).0);
+            self.calls.bound.count(bound(settings.n, settings.m, &list, before));
         }
     }
 
@@ -173,18 +176,18 @@ impl Soak {
         let random = &mut self.random;
         for _ in 0..4 {
             let (slot, before) = (any_slot(random), word(random));
-            self.calls.word_for.add(bench.word_for(p, slot, before));
+            self.calls.word_for.count(bench.word_for(p, slot, before));
         }
-        self.calls.answer_for.add(bench.answer_for(p, word(random)));
+        self.calls.answer_for.count(bench.answer_for(p, word(random)));
         let lists = [CARDS, SLOTS, SLOTS].map(|right| {
             let length = random.length(right);
             words::words(random, length)
         });
-        self.calls.all_answers.add(bench.all_answers(&lists[0]));
-        self.calls.fill.add(bench.fill(p, &lists[1], &lists[2]));
+        self.calls.all_answers.count(bench.all_answers(&lists[0]));
+        self.calls.fill.count(bench.fill(p, &lists[1], &lists[2]));
         let before = [(); TEXT].map(|()| self.random.byte());
         let file = self.file();
-        self.calls.list.add(refusal_in(&list(&file, &before)));
+        self.calls.list.count(list(&file, &before));
     }
 
     /// A listing file made up, or a good one damaged.

@@ -1,5 +1,8 @@
 //! Counts of outcomes, so that a test can tell that it met every refusal it is there for.
 
+use crate::compare::number_of;
+use second::Refusal;
+
 /// How often each outcome came: 0, or a refusal's number.
 #[derive(Debug, Default)]
 pub struct Tally([u64; 17]);
@@ -7,6 +10,11 @@ pub struct Tally([u64; 17]);
 impl Tally {
     pub fn add(&mut self, number: u8) {
         self.0[usize::from(number)] += 1;
+    }
+
+    /// Counts what a call yields.
+    pub fn count<T>(&mut self, outcome: Result<T, Refusal>) {
+        self.add(number_of(&outcome));
     }
 
     pub fn times(&self, number: u8) -> u64 {

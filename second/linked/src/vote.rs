@@ -4,11 +4,15 @@ use crate::compare::{compare, number_of};
 use crate::ffi;
 use crate::lent::Lent;
 use second::paths::Settings;
-use second::vote;
+use second::{vote, Refusal};
 
-/// The vote at a slot; `before` is what the lent place holds before the call. Yields the
-/// number and what the place holds after it.
-pub fn vote_at(settings: Settings, words: &Lent<i32>, slot: usize, before: i32) -> (u8, i32) {
+/// The vote at a slot; `before` is what the lent place holds before the call.
+pub fn vote_at(
+    settings: Settings,
+    words: &Lent<i32>,
+    slot: usize,
+    before: i32,
+) -> Result<i32, Refusal> {
     let mut place = Lent::new(vec![before]);
     let number = ffi::vote_at(settings, words.library(), slot, &mut place.library_mut()[0]);
     let second = vote::vote_at(settings, words.second(), slot);
@@ -18,5 +22,5 @@ pub fn vote_at(settings: Settings, words: &Lent<i32>, slot: usize, before: i32) 
     compare(call, number, number_of(&second));
     place.compare("vote", call);
     words.compare("words", call);
-    (number, place.second()[0])
+    second
 }

@@ -32,12 +32,29 @@ pub fn words(random: &mut Random, length: usize) -> Vec<i32> {
 
 pub fn read_wrap_unwrap(word: i32) {
     for level in LEVELS {
-        let library = ffi::read_at(level, word);
-        let call = format_args!("read_at level {level:x} word {word:x}");
-        compare(call, library, words::read_at(level, word));
+        read_at(level, word);
     }
-    compare(format_args!("wrap word {word:x}"), ffi::wrap(word), words::wrap(word));
-    compare(format_args!("unwrap word {word:x}"), ffi::unwrap(word), words::unwrap(word));
+    wrap(word);
+    unwrap(word);
+}
+
+pub fn read_at(level: usize, word: i32) -> i32 {
+    let second = words::read_at(level, word);
+    let call = format_args!("read_at level {level:x} word {word:x}");
+    compare(call, ffi::read_at(level, word), second);
+    second
+}
+
+pub fn wrap(word: i32) -> i32 {
+    let second = words::wrap(word);
+    compare(format_args!("wrap word {word:x}"), ffi::wrap(word), second);
+    second
+}
+
+pub fn unwrap(word: i32) -> i32 {
+    let second = words::unwrap(word);
+    compare(format_args!("unwrap word {word:x}"), ffi::unwrap(word), second);
+    second
 }
 
 /// The majority of a list, which both programs find.

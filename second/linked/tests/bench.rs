@@ -1,11 +1,32 @@
 //! Exchanges on the bench: words, answers, filled books and the bound.
 
+#[path = "../../tests/cases/exchanges.rs"]
+mod cases;
+
+use cases::{hold_books, hold_exchanges};
 use linked::bench::{any_statuses, bound, statuses, Bench};
 use linked::random::Random;
 use linked::settings::{all_rounds, any, any_slot, of_rounds};
 use linked::tally::Tally;
 use linked::words::{word, words};
 use second::paths::{CARDS, SLOTS};
+
+#[test]
+fn worked_exchanges() {
+    hold_exchanges(
+        |exchange, list| Bench::of(exchange).all_answers(&list),
+        |exchange, p| Bench::of(exchange).answer_for(p, 9),
+        |n, m, statuses| bound(n, m, statuses, 9),
+    );
+}
+
+#[test]
+fn worked_books() {
+    hold_books(
+        |exchange, p, slot| Bench::of(exchange).word_for(p, slot, 9),
+        |exchange, p, [words, votes]| Bench::of(exchange).fill(p, &words, &votes),
+    );
+}
 
 #[test]
 fn every_word_of_many_exchanges() {
@@ -16,7 +37,7 @@ fn every_word_of_many_exchanges() {
             let settings = of_rounds(&mut random, n, m);
             let bench = Bench::good(&mut random, n, m, settings.t);
             for slot in 0..=1_200 {
-                outcomes.add(bench.word_for(settings.p, slot, word(&mut random)));
+                outcomes.count(bench.word_for(settings.p, slot, word(&mut random)));
             }
         }
     }
@@ -30,11 +51,11 @@ fn every_answer_and_book_of_many_exchanges() {
     for (n, m) in all_rounds() {
         for t in (0..n).cycle().take(20) {
             let bench = Bench::good(&mut random, n, m, t);
-            outcomes.add(bench.all_answers(&words(&mut random, CARDS)));
+            outcomes.count(bench.all_answers(&words(&mut random, CARDS)));
             for p in 0..n {
-                outcomes.add(bench.answer_for(p, word(&mut random)));
+                outcomes.count(bench.answer_for(p, word(&mut random)));
                 let book = [words(&mut random, SLOTS), words(&mut random, SLOTS)];
-                outcomes.add(bench.fill(p, &book[0], &book[1]));
+                outcomes.count(bench.fill(p, &book[0], &book[1]));
             }
         }
     }
@@ -49,14 +70,14 @@ fn any_exchanges() {
     for _ in 0..10_000 {
         let (bench, p) = Bench::any(&mut random);
         let slot = any_slot(&mut random);
-        word_for.add(bench.word_for(p, slot, word(&mut random)));
-        answer_for.add(bench.answer_for(p, word(&mut random)));
+        word_for.count(bench.word_for(p, slot, word(&mut random)));
+        answer_for.count(bench.answer_for(p, word(&mut random)));
         let [answers, words, votes] = [CARDS, SLOTS, SLOTS].map(|right| {
             let length = random.length(right);
             words(&mut random, length)
         });
-        all_answers.add(bench.all_answers(&answers));
-        fill.add(bench.fill(p, &words, &votes));
+        all_answers.count(bench.all_answers(&answers));
+        fill.count(bench.fill(p, &words, &votes));
     }
     word_for.expect(&[0, 1, 2, 3, 4, 5, 6, 7, 8], 100);
     answer_for.expect(&[0, 1, 2, 3, 4, 5, 6, 7], 100);
@@ -80,9 +101,9 @@ fn the_bound_for_every_number_of_faulty_cards() {
             list.resize(n, 0);
             random.shuffle(&mut list);
             list.resize(CARDS, 0);
-            let (number, place) = bound(n, m, &list, word(&mut random));
-            outcomes.add(number);
-            held[place as usize] += 1;
+            let outcome = bound(n, m, &list, word(&mut random));
+            outcomes.count(outcome);
+            held[usize::from(outcome == Ok(true))] += 1;
         }
     }
     outcomes.expect(&[0], 3_948);
@@ -96,8 +117,8 @@ fn any_bounds() {
     for _ in 0..300_000 {
         let settings = any(&mut random);
         let list = any_statuses(&mut random, settings.n);
-        outcomes.add(bound(settings.n, settings.m, &list, word(&mut random)).0);
-        outcomes.add(bound(10, 3, &statuses(&mut random, 10), word(&mut random)).0);
+        outcomes.count(bound(settings.n, settings.m, &list, word(&mut random)));
+        outcomes.count(bound(10, 3, &statuses(&mut random, 10), word(&mut random)));
     }
     outcomes.expect(&[0, 1, 2, 5, 7], 5_000);
 }

@@ -1,21 +1,33 @@
-//! Listing files: good, damaged and made up.
+//! Listing files: worked by hand, good, damaged and made up.
 
+#[path = "../../tests/cases/listings.rs"]
+mod cases;
+
+use cases::hold_listings;
+use linked::compare::number_of;
 use linked::ffi::TEXT;
-use linked::listing::{damage, garbage, good, good_of, list, refusal_in, EXCEPTION, HEAD};
+use linked::listing::{damage, garbage, good, good_of, list, EXCEPTION, HEAD};
 use linked::random::Random;
 use linked::settings::all_rounds;
 use linked::tally::Tally;
+use second::Refusal;
 
 /// A file is listed, or refused with one of these.
 const OUTCOMES: [u8; 10] = [0, 1, 2, 3, 6, 7, 9, 10, 11, 16];
 
-fn listed(random: &mut Random, file: &[u8]) -> String {
+fn listed(random: &mut Random, file: &[u8]) -> Result<String, Refusal> {
     let before = [(); TEXT].map(|()| random.byte());
     list(file, &before)
 }
 
 fn number(random: &mut Random, file: &[u8]) -> u8 {
-    refusal_in(&listed(random, file))
+    number_of(&listed(random, file))
+}
+
+#[test]
+fn worked_listings() {
+    let refused = |number| format!("refused {number}\n");
+    hold_listings(|file| list(file, &[9; TEXT]).unwrap_or_else(refused));
 }
 
 #[test]
@@ -25,7 +37,7 @@ fn good_files() {
     for _ in 0..25_000 {
         let file = good(&mut random);
         let text = listed(&mut random, &file);
-        assert_eq!(refusal_in(&text), 0, "{file:02x?}");
+        let text = text.unwrap_or_else(|number| panic!("refused {number}: {file:02x?}"));
         if text.contains("not held") {
             not_held += 1;
         } else {
@@ -130,6 +142,6 @@ fn the_longest_text() {
     let mut file = good_of(&mut random, 10, 0, 0);
     file[7..18].copy_from_slice(&[0, 0, 2, 2, 2, 2, 2, 2, 2, 2, 2]);
     file[18..22].copy_from_slice(&(-999_999_999i32).to_be_bytes());
-    let text = listed(&mut random, &file);
+    let text = listed(&mut random, &file).expect("a good file");
     assert_eq!(text.len(), 10 * "0 0 -999999999\n".len() + "bound not held\n".len());
 }

@@ -3,15 +3,17 @@
 
 use linked::bench::{bound, Bench};
 use linked::book::Book;
+use linked::compare::number_of;
 use linked::ffi::{FIELDS, TEXT};
 use linked::frames::{frame_of, read, record_for, write};
 use linked::lent::Lent;
-use linked::listing::{list, refusal_in, EXCEPTION, HEAD};
+use linked::listing::{list, EXCEPTION, HEAD};
 use linked::vote::vote_at;
 use second::exchange::PLACES;
 use second::frames::Record;
 use second::paths::{Settings, CARDS, SLOTS};
 use second::words::E;
+use second::Refusal;
 
 /// What is wrong in a call, and the number with which that is refused.
 type Fault = (&'static str, u8);
@@ -95,12 +97,12 @@ impl Faults {
 }
 
 /// Makes a call with every set of these faults, which stand in the document's order.
-fn every_set(order: &[Fault], call: impl Fn(&Faults) -> u8) {
+fn every_set<T>(order: &[Fault], call: impl Fn(&Faults) -> Result<T, Refusal>) {
     for set in 0..1usize << order.len() {
         let faults = (0..order.len()).filter(|place| set >> place & 1 == 1);
         let faults = Faults(faults.map(|place| order[place]).collect());
         let first = faults.0.first().map_or(0, |fault| fault.1);
-        assert_eq!(call(&faults), first, "{:?}", faults.0);
+        assert_eq!(number_of(&call(&faults)), first, "{:?}", faults.0);
     }
 }
 
@@ -109,7 +111,7 @@ fn votes_and_books() {
     let order = [N, M, T, P, LENGTH, SLOT];
     every_set(&order, |faults| {
         let words = Lent::new(vec![6; faults.choose(LENGTH, SLOTS - 1, SLOTS)]);
-        vote_at(faults.settings(), &words, faults.slot(), 9).0
+        vote_at(faults.settings(), &words, faults.slot(), 9)
     });
     every_set(&order, |faults| faults.book().enter(faults.settings(), faults.slot(), 7));
     every_set(&order[..5], |faults| faults.book().open(faults.settings()));
@@ -154,7 +156,7 @@ fn the_bench() {
     });
     every_set(&[N, M, LENGTH, STATUS], |faults| {
         let statuses = faults.statuses(faults.choose(LENGTH, CARDS + 1, CARDS));
-        bound(faults.settings().n, faults.settings().m, &statuses, 9).0
+        bound(faults.settings().n, faults.settings().m, &statuses, 9)
     });
 }
 
@@ -180,6 +182,6 @@ fn listing_files() {
         file.resize(HEAD + EXCEPTION * usize::from(exceptions), 0);
         file.extend(vec![0; faults.choose(SIZE, 1, 0)]);
         file.truncate(faults.choose(SHORT, HEAD - 1, file.len()));
-        refusal_in(&list(&file, &[9; TEXT]))
+        list(&file, &[9; TEXT])
     });
 }

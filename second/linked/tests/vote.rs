@@ -1,5 +1,9 @@
 //! Votes from lists of words.
 
+#[path = "../../tests/cases/votes.rs"]
+mod cases;
+
+use cases::hold_votes;
 use linked::lent::Lent;
 use linked::random::Random;
 use linked::settings::{all, any, any_slot};
@@ -10,6 +14,11 @@ use second::paths::SLOTS;
 use second::words::{kind, Kind};
 
 #[test]
+fn worked_votes() {
+    hold_votes(|settings, words, slot| vote_at(settings, &Lent::new(words.to_vec()), slot, 9));
+}
+
+#[test]
 fn every_number_to_1200_in_every_setting() {
     let mut random = Random::new("every setting");
     let mut outcomes = Tally::default();
@@ -18,12 +27,13 @@ fn every_number_to_1200_in_every_setting() {
     for settings in all() {
         let words = Lent::new(words(&mut random, SLOTS));
         for slot in 0..=1_200 {
-            let (number, vote) = vote_at(settings, &words, slot, word(&mut random));
-            outcomes.add(number);
-            match kind(vote) {
-                Kind::Ordinary if number == 0 => ordinary += 1,
-                Kind::Missing { wraps } if number == 0 => missing[wraps] += 1,
-                _ => assert_ne!(number, 0, "a vote is ordinary or missing"),
+            let outcome = vote_at(settings, &words, slot, word(&mut random));
+            outcomes.count(outcome);
+            match outcome.map(kind) {
+                Ok(Kind::Ordinary) => ordinary += 1,
+                Ok(Kind::Missing { wraps }) => missing[wraps] += 1,
+                Ok(Kind::Bad) => panic!("a vote is ordinary or missing"),
+                Err(_) => {}
             }
         }
     }
@@ -40,7 +50,7 @@ fn any_settings_lists_and_slots() {
         let length = random.length(SLOTS);
         let words = Lent::new(words(&mut random, length));
         let slot = any_slot(&mut random);
-        outcomes.add(vote_at(settings, &words, slot, word(&mut random)).0);
+        outcomes.count(vote_at(settings, &words, slot, word(&mut random)));
     }
     outcomes.expect(&[0, 1, 2, 3, 4, 5, 8], 2_000);
 }

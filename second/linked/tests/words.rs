@@ -1,8 +1,18 @@
 //! Words one at a time at every level, and majorities of lists.
 
+#[path = "../../tests/cases/words.rs"]
+mod cases;
+
+use cases::{hold_majorities, hold_words};
 use linked::random::Random;
-use linked::words::{majority, read_wrap_unwrap, word, words, ENDS};
+use linked::words::{majority, read_at, read_wrap_unwrap, unwrap, word, words, wrap, ENDS};
 use second::words::{kind, Kind, E};
+
+#[test]
+fn worked_words_and_majorities() {
+    hold_words(read_at, wrap, unwrap);
+    hold_majorities(majority);
+}
 
 #[test]
 fn words_around_every_end_of_a_range() {
