@@ -1,49 +1,111 @@
--- Laws of the dealt words: what a card of each status sends, and a slot from the one above.
-use Prim.Native.Nat.{ℕ, zero, suc, _<_}
-use mathlib.Core.Path.{_≡_, refl, _∙_}
+-- The vote worked out from the exchange itself is the vote over what the card receives.
+use Prim.Native.Nat.{ℕ, zero, suc, _+_, _-_, _≤_, _<_}
+use mathlib.Core.Path.{_≡_, refl, sym, ap, ap₂, _∙_}
+use mathlib.Core.Bool.{Bool, false}
+use mathlib.Core.List.{List}
+use native.Mathlib.Numerals.{add-one, sub-one}
+use native.Mathlib.Omega.{arith}
+use native.Mathlib.Decide.{ℕ-discrete}
 use lib.IntN.{ℤ}
-use Rattle.words.specs.Word.{E}
+use lib.ListN.{getD, set}
+use Rattle.ground.specs.Lists.{table}
+use Rattle.ground.proofs.Lists.{over-same}
 use Rattle.words.specs.Rule.{Rule}
-use Rattle.paths.specs.Slots.{above, lastRelay, level}
-use Rattle.paths.proofs.Levels.{level-pos, level-above}
-use Rattle.bench.specs.Exchange.{Exchange, statusOf, sent, dealtAt, dealt}
+use Rattle.settings.specs.Settings.{turnOf}
+use Rattle.settings.specs.declared.Turn.{Turn}
+use Rattle.settings.specs.declared.Settings.{Settings}
+use Rattle.paths.specs.Slots.{below, level, mayRelay, membersOf, roundsLeft}
+use Rattle.paths.specs.Walk.{may, room}
+use Rattle.paths.proofs.Levels.{level-below}
+use Rattle.paths.proofs.Members.{first-members}
+use Rattle.paths.proofs.Handed.{room-less, room-zero, left-few, down-first}
+use Rattle.vote.specs.Vote.{decided, vote}
+use Rattle.vote.specs.Members.{memberVote}
+use Rattle.vote.proofs.Handed.{own-vote, handed-vote}
+use Rattle.exchange.specs.Exchange.{Exchange, exchange, statusOf, sent, dealtAt, dealt, received, answerOf}
+use Rattle.exchange.proofs.Dealing.{dealt-below, at-received}
+use Rattle.bench.specs.Dealing.{sentTo, dealtVote, dealtVotes}
 
--- ---- by the status byte
+inner : (r k : ℕ) → k < room (suc r) → k < 111
+inner zero k h = h
+inner (suc zero) k h = omega arith
+inner (suc (suc r)) k h = omega arith
 
-module _ (s : ℕ) (word own first : ℤ) where
-  pub sent-good : s ≡ 0 → word ≡ sent (statusOf s) word own first
-  unfolding statusOf sent
-  sent-good e = rw e
+module _ (R : Rule) (turn : Turn) (x : ℤ) (statuses : List ℕ) (words : List ℤ) where
+  abbrev X : Exchange
+  X = exchange turn x statuses words
 
-  pub sent-arbitrary : s ≡ 1 → own ≡ sent (statusOf s) word own first
-  unfolding statusOf sent
-  sent-arbitrary e = rw e
+  -- a card of this status byte sends on the path at slot k, the word if it is good
+  abbrev Sends : ℕ → ℕ → ℤ → Type 0
+  Sends k status word = (q : ℕ) → sentTo status word words k q ≡ dealt R X k q
 
-  pub sent-symmetric : s ≡ 2 → first ≡ sent (statusOf s) word own first
-  unfolding statusOf sent
-  sent-symmetric e = rw e
-
-  pub sent-manifest : (s ≡ 0 → ⊥) → (s ≡ 1 → ⊥) → (s ≡ 2 → ⊥) → E ≡ sent (statusOf s) word own first
-  sent-manifest a b c = go s a b c
-    where
-      go : (s : ℕ) → (s ≡ 0 → ⊥) → (s ≡ 1 → ⊥) → (s ≡ 2 → ⊥) → E ≡ sent (statusOf s) word own first
-      go zero a b c = absurd (a refl)
-      go (suc zero) a b c = absurd (b refl)
-      go (suc (suc zero)) a b c = absurd (c refl)
-      go (suc (suc (suc s))) a b c = unfold statusOf sent in refl
-
--- ---- slot by slot
-
-module _ (R : Rule) (X : Exchange) (k p : ℕ) {word r : ℤ} where
-  -- at slot 0 the sender sends its value
-  pub dealt-first : k ≡ 0 → word ≡ X .value → r ≡ sent (X .status (X .sender)) word (X .tabled k p) (X .tabled k 0) → r ≡ dealt R X k p
+  -- the sender, and a relay one slot further
+  sends-first : Sends 0 (getD statuses (turn .t) 0) x
   unfolding dealtAt level
-  dealt-first e w h = h ∙ rw (w, e)
+  sends-first q = refl
 
-  -- at any other the last relay sends on what it received one slot up
-  pub dealt-next : 0 < k → k < 1111 → word ≡ R .wrap (R .read (level (above k)) (dealt R X (above k) (lastRelay k))) → r ≡ sent (X .status (lastRelay k)) word (X .tabled k p) (X .tabled k 0) → r ≡ dealt R X k p
-  unfolding dealtAt
-  dealt-next a b w h =
-      let (d, e) = level-pos k b a in
-      let f : level (above k) ≡ d = level-above k d b e in
-      h ∙ rw (w, e, f)
+  sends-below : (k d q : ℕ) (status : ℕ) (word : ℤ) → k < 111 → q < 10 → level k ≡ d → Sends k status word → Sends (below k q) (getD statuses q 0) (R .wrap (R .read d (sentTo status word words k q)))
+  sends-below k d q status word h g e s p =
+      rw (← e, s q) (sym (dealt-below R X k q h g p))
+
+  module _ (p : ℕ) where
+    sent-vote : (r d k : ℕ) (members : List Bool) (status : ℕ) (word : ℤ) → r + d ≤ 3 → k < room r → level k ≡ d → Sends k status word → dealtVote R statuses words p members r d k status word ≡ memberVote R (received R X p) members r d k
+    unfolding dealtVote memberVote
+    sent-vote zero d k members status word few h e s = ap (R .read d) (s p ∙ sym (at-received R X p k h))
+    sent-vote (suc r) d k members status word few h e s =
+        let small : k < 111 = inner r k h in
+        ap₂ (decided R) (ap (R .read d) (s p ∙ sym (at-received R X p k (omega arith))))
+        (over-same (may members) _ _ 10 0 (λ q a b t.
+        sent-vote r (d + 1) (below k q) (set members q false) _ _ (omega arith)
+        (room-less r k q (omega arith) (rw add-one h) b)
+        (level-below k q small b ∙ ap suc e ∙ sym (add-one d))
+        (sends-below k d q status word small b e s)))
+
+-- from slot 0, with all cards that may relay and all rounds
+pub dealt-answer : (R : Rule) (s : Settings) (x : ℤ) (statuses : List ℕ) (words : List ℤ) {members : List Bool} {left : ℕ} → s .rack .m ≤ 3 → members ≡ table 10 0 (mayRelay s) → left ≡ roundsLeft s 0 → dealtVote R statuses words (s .p) members left 0 0 (getD statuses (s .t) 0) x ≡ answerOf R (exchange (turnOf s) x statuses words) (s .p)
+unfolding answerOf level
+dealt-answer R s x statuses words {members} {left} few e f =
+    let X = exchange (turnOf s) x statuses words in
+    sent-vote R (turnOf s) x statuses words (s .p) left 0 0 members _ x (omega (arith, left-few s 0)) (room-zero left) refl (sends-first R (turnOf s) x statuses words)
+    ∙ rw (f, e, first-members s) (go (received R X (s .p)) (ℕ-discrete (s .p) (s .t)))
+  where
+    go : (ws : List ℤ) → Dec (s .p ≡ s .t) → memberVote R ws (membersOf s 0) (roundsLeft s 0) 0 0 ≡ vote R s ws 0
+    go ws (yes own) = own-vote R s ws 0 (membersOf s 0) own
+    go ws (no o) = handed-vote R s ws o few _ _ _ _ (down-first s o)
+
+-- ---- the word of a card that is not good is not looked at
+
+sent-unread : (status : ℕ) (v w own first : ℤ) → (status ≡ 0 → ⊥) → sent (statusOf status) v own first ≡ sent (statusOf status) w own first
+unfolding statusOf sent
+sent-unread zero v w own first n = absurd (n refl)
+sent-unread (suc zero) v w own first n = refl
+sent-unread (suc (suc zero)) v w own first n = refl
+sent-unread (suc (suc (suc status))) v w own first n = refl
+
+module _ (R : Rule) (statuses : List ℕ) (words : List ℤ) (p : ℕ) (members : List Bool) (r d k status : ℕ) where
+  -- so a vote goes by it only where the card is good
+  pub vote-sends : {v w : ℤ} → (status ≡ 0 → v ≡ w) → dealtVote R statuses words p members r d k status v ≡ dealtVote R statuses words p members r d k status w
+  vote-sends {v} {w} e = go (ℕ-discrete status 0)
+    where
+      bad : (r : ℕ) → (status ≡ 0 → ⊥) → dealtVote R statuses words p members r d k status v ≡ dealtVote R statuses words p members r d k status w
+      bad zero n = unfold dealtVote in ap (R .read d) (sent-unread status v w _ _ n)
+      bad (suc r) n = unfold dealtVote in (ap₂ (decided R) (ap (R .read d) (sent-unread status v w _ _ n))
+          (over-same (may members) _ _ 10 0 (λ q a b t. ap (λ (x : ℤ). dealtVote R statuses words p (set members q false) r (d + 1) (below k q) (getD statuses q 0) (R .wrap (R .read d x))) (sent-unread status v w _ _ n))))
+
+      go : Dec (status ≡ 0) → dealtVote R statuses words p members r d k status v ≡ dealtVote R statuses words p members r d k status w
+      go (yes z) = ap (dealtVote R statuses words p members r d k status) (e z)
+      go (no n) = bad r n
+
+  -- ---- the two cases of a vote, from the own reading
+
+  module _ (word : ℤ) {own : ℤ} (e : own ≡ R .read d (sentTo status word words k p)) where
+    pub vote-last : r ≡ 0 → own ≡ dealtVote R statuses words p members r d k status word
+    unfolding dealtVote
+    vote-last z = e ∙ rw z
+
+    pub vote-more : (r ≡ 0 → ⊥) → {v : ℤ} → v ≡ decided R own (dealtVotes R statuses words p members (r - 1) d k status word 10) → v ≡ dealtVote R statuses words p members r d k status word
+    vote-more n h = h ∙ rw e (go r n)
+      where
+        go : (r : ℕ) → (r ≡ 0 → ⊥) → decided R (R .read d (sentTo status word words k p)) (dealtVotes R statuses words p members (r - 1) d k status word 10) ≡ dealtVote R statuses words p members r d k status word
+        go zero n = absurd (n refl)
+        go (suc r) n = unfold dealtVote in (rw sub-one)

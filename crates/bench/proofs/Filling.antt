@@ -1,40 +1,64 @@
--- Laws of filling a book: dealt, then refilled.
-use Prim.Native.Nat.{ℕ}
+-- A book filled: what a call that is not refused leaves, and that it holds its card's answer.
+use Prim.Native.Nat.{ℕ, _+_, _<_}
 use mathlib.Core.Path.{_≡_, refl, sym, ap, _∙_}
-use mathlib.Core.Bool.{true, not}
+use mathlib.Core.Bool.{true, cond, not, _&&_, and-eq-true-iff}
 use mathlib.Core.List.{List}
-use lib.IntN.{ℤ}
+use native.Mathlib.Omega.{arith}
+use lib.IntN.{ℤ, pos}
 use lib.ListN.{length}
-use borrow.Author.Tests.{eq-eqb}
-use Rattle.words.specs.Rule.{omh}
-use Rattle.paths.specs.Checks.{verdict, answer, after}
-use Rattle.paths.specs.Rack.{rack, settingsChecks}
-use Rattle.paths.specs.Slots.{slots}
-use Rattle.paths.proofs.Verdicts.{none-next, passed-lists}
-use Rattle.paths.proofs.Tables.{length-table}
-use Rattle.book.specs.Book.{Book, refilled}
-use Rattle.book.specs.Run.{Sized}
-use Rattle.book.specs.Asked.{bookOf, sized, outcome, refillAsked}
-use Rattle.book.proofs.Outcomes.{sized-both}
-use Rattle.bench.specs.Exchange.{exchange, filledFor}
-use Rattle.bench.specs.Dealing.{dealtOver}
-use Rattle.bench.specs.Asked.{inputsLong, fillChecks, fillAsked}
-use Rattle.bench.proofs.Asking.{both, card-asked}
+use Rattle.ground.specs.Checks.{verdict}
+use Rattle.ground.specs.Lists.{at}
+use Rattle.ground.proofs.Answers.{outcome-done}
+use Rattle.ground.proofs.Bools.{cond-yes}
+use Rattle.ground.proofs.Lists.{length-table, at-table}
+use Rattle.ground.proofs.Verdicts.{no-verdicts}
+use Rattle.words.specs.Rule.{Rule}
+use Rattle.settings.specs.Settings.{slots, ruleOf, turnOf, settingsChecks}
+use Rattle.settings.specs.declared.Settings.{Settings}
+use Rattle.settings.proofs.Good.{Good}
+use Rattle.paths.specs.Slots.{live}
+use Rattle.paths.proofs.Live.{live-zero, live-slot}
+use Rattle.book.specs.Book.{Book, bookOf, sized, held, Sized}
+use Rattle.book.proofs.Asking.{sized-both, not-refused}
+use Rattle.refilling.specs.Refilled.{refilled, refillAsked}
+use Rattle.refilling.proofs.Refilled.{refilled-agrees}
+use Rattle.exchange.specs.Exchange.{Exchange, exchange, settingsFor, dealt, answerOf}
+use Rattle.exchange.specs.Asked.{inputsLong}
+use Rattle.exchange.proofs.Dealing.{answer-from}
+use Rattle.bench.specs.Bench.{dealtOver, filledFor}
+use Rattle.bench.specs.Asked.{fillChecks, fillAsked}
+use Rattle.bench.proofs.Asking.{card-asked}
 
--- two calls that are not refused, and make the same
-outcome-same : {v u : ℕ} (b c : Book) {made also : Book} → v ≡ 0 → u ≡ 0 → made ≡ also → outcome v b made ≡ outcome u c also
-unfolding outcome answer after
-outcome-same b c e f h = rw (e, f, h)
+pub length-dealt : (R : Rule) (X : Exchange) (p : ℕ) (before : List ℤ) → length (dealtOver R X p before) ≡ slots
+unfolding dealtOver
+length-dealt R X p before = length-table slots 0 _
 
-module _ (n m t : ℕ) (x : ℤ) (statuses : List ℕ) (table : List ℤ) (p : ℕ) (words votes : List ℤ) (z : verdict (fillChecks n m t x statuses table p (bookOf words votes)) ≡ 0) where
-  -- both lists of the book are whole
-  pub book-whole : Sized (bookOf words votes)
-  book-whole = sized-both (bookOf words votes) (ap not (both (inputsLong statuses table) _ (card-asked n m t p x statuses _ z .1) .1))
+-- ---- a call that is not refused
 
-  pub filling : {after : List ℤ} → after ≡ dealtOver omh (exchange n m t x statuses table) p words → refillAsked n m t p (bookOf after votes) ≡ fillAsked n m t x statuses table p (bookOf words votes)
-  unfolding filledFor
-  filling {after} e =
-      let long : length after ≡ slots = ap length e ∙ length-table slots 0 _ in
-      let whole : sized (bookOf after votes) ≡ true = rw (eq-eqb _ slots long) (eq-eqb _ slots (book-whole .votes-long)) in
-      outcome-same _ _ (sym (none-next (settingsChecks n m t p) tt 5 refl (passed-lists (settingsChecks n m t p) tt _ z .0) (ap not whole))) z
-      (ap (λ (l : List ℤ). refilled omh (rack n m t p) (bookOf l votes)) e)
+module _ (s : Settings) (x : ℤ) (statuses : List ℕ) (words : List ℤ) (b : Book) (e : verdict (fillChecks s x statuses words b) ≡ 0) where
+  long : (inputsLong statuses words ≡ true) × (sized b ≡ true)
+  long = and-eq-true-iff (inputsLong statuses words) (sized b) .0 (card-asked s x statuses _ e .1)
+
+  pub fill-asked : Good s × (inputsLong statuses words ≡ true) × Sized b
+  fill-asked = (card-asked s x statuses (inputsLong statuses words && sized b) e .0, long .0, sized-both b (ap not (long .1)))
+
+  -- dealt, then refilled
+  pub filling : {dealt-words : List ℤ} → dealt-words ≡ dealtOver (ruleOf (s .rack)) (exchange (turnOf s) x statuses words) (s .p) (b .words) → refillAsked s (bookOf dealt-words (b .votes)) ≡ fillAsked s x statuses words b
+  unfolding fillAsked filledFor
+  filling {dealt-words} f =
+      let whole : Sized (bookOf dealt-words (b .votes)) = record { words-long = ap length f ∙ length-dealt (ruleOf (s .rack)) (exchange (turnOf s) x statuses words) (s .p) (b .words); votes-long = fill-asked .2 .votes-long } in
+      let settings = no-verdicts (settingsChecks s) _ tt e .0 in
+      sym (outcome-done refl (not-refused s (bookOf dealt-words (b .votes)) settings whole) _ refl)
+      ∙ outcome-done refl e _ (ap (λ (ws : List ℤ). refilled (ruleOf (s .rack)) s (bookOf ws (b .votes))) f)
+
+-- ---- what it holds
+
+-- a book filled for a card holds that card's answer, whatever it held before
+pub filled-held : (R : Rule) (X : Exchange) (p : ℕ) (b : Book) → held (filledFor R X p b) ≡ answerOf R X p
+unfolding filledFor
+filled-held R X p b =
+    refilled-agrees R (settingsFor X p) _ (b .votes) 0 (live-zero (settingsFor X p))
+    ∙ answer-from R X p _ (λ k t. at-dealt k (live-slot (settingsFor X p) k t) ∙ cond-yes (live (settingsFor X p) k) _ _ t)
+  where
+    at-dealt : (k : ℕ) → k < slots → at (dealtOver R X p (b .words)) k ≡ cond (live (settingsFor X p) k) (dealt R X k p) (at (b .words) k)
+    at-dealt k h = unfold dealtOver in (let e : 0 + k ≡ k = omega arith in at-table slots 0 _ k (pos 0) h ∙ ap (λ (j : ℕ). cond (live (settingsFor X p) j) (dealt R X j p) (at (b .words) j)) e)

@@ -1,4 +1,3 @@
-pub mod Exchange
-pub mod Bound
-pub mod Asked
+pub mod Bench
 pub mod Dealing
+pub mod Asked

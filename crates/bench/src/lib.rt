@@ -1,134 +1,39 @@
-// Document 01, 'The exchange on the bench'.
-use book::Done;
-use paths::Settings;
-use paths::refusal;
-use vote::Voted;
+// Document 01, 'The exchange on the bench': one word, one card's answer, all answers, and a book filled.
+use ground::Done;
+use ground::Told;
+use ground::refusal;
+use settings::Settings;
+use settings::Turn;
 use words::E;
-use words::Kind;
 ghost use mathlib.Core.Path.{_≡_};
-ghost use mathlib.Core.Bool.{true, cond, _&&_};
 ghost use mathlib.Core.List.{_++_};
-ghost use Prim.Native.Nat.{ℕ, _≤_, _<_};
-ghost use lib.Dec.{eqb, ltb};
-ghost use lib.ListN.{length, getD};
-ghost use Rattle.words.specs.Word.{kindOf, readAt, wrapped};
+ghost use Prim.Native.Nat.{_+_, _≤_, _<_};
+ghost use lib.ListN.{length};
+ghost use Rattle.ground.specs.Checks.{verdict};
+ghost use Rattle.ground.specs.Answer.{outcome, ofTold, ofDone};
+ghost use Rattle.words.specs.Word.{readAt, wrapped};
 ghost use Rattle.words.specs.Rule.{omh};
-ghost use Rattle.paths.specs.Checks.{verdict};
-ghost use Rattle.paths.specs.Rack.{rack, rackOf, senderChecks, settingsChecks};
-ghost use Rattle.paths.specs.Slots.{slots, table};
-ghost use Rattle.vote.specs.Vote.{at, vote};
-ghost use Rattle.vote.specs.Members.{may};
-ghost use Rattle.book.specs.Asked.{bookOf, sized, outcomeOf};
-ghost use Rattle.bench.specs.Exchange.{exchange, dealt};
-ghost use Rattle.bench.specs.Bound.{count};
-ghost use Rattle.bench.specs.Dealing.{Deals, sentTo, dealtOver, SlotDealt, DealtBelow, DealtUnder, cardVote};
-ghost use Rattle.bench.specs.Asked.{toldOf, boundedOf, inputsLong, statusBad, statusesBad, isOrdinary, valueChecks, wordChecks, wordAsked, answerAsked, answersWith, answersChecks, answersAsked, fillAsked, boundChecks, boundAsked};
+ghost use Rattle.settings.specs.Settings.{slots, ruleOf, turnOf, settingsChecks};
+ghost use Rattle.settings.specs.declared.Rack.{Rack};
+ghost use Rattle.vote.specs.Vote.{decided};
+ghost use Rattle.book.specs.Book.{bookOf};
+ghost use Rattle.exchange.specs.Exchange.{exchange, dealt, answerOf};
+ghost use Rattle.exchange.specs.Asked.{valueChecks};
+ghost use Rattle.bench.specs.Bench.{dealtOver, answersOf};
+ghost use Rattle.bench.specs.Dealing.{sentTo, Deals, Dealing, dealtVote, dealtVotes};
+ghost use Rattle.bench.specs.Asked.{wordAsked, answerForAsked, answersAsked, fillAsked};
 
-pub enum Told {
-    Word(i32),
-    Refused(u8),
-}
+// An own report, and one from each of the ten cards.
+const REPORTS: usize = Settings::MAX_CARDS + 1;
 
-pub enum Bounded {
-    Held,
-    NotHeld,
-    Refused(u8),
-}
-
-// The table has a word for each slot and receiver.
-const TABLE: usize = Settings::SLOTS * Settings::MAX_CARDS;
-
-// Whether a status byte is over 3, or not 0 from card n up.
-fn status_bad(n: usize, statuses: &[u8], q: usize) -> bool
-    requires { ⌜ q < length (now statuses) ⌝ }
-    ensures { λ r. ⌜ r ≡ statusBad n (now (statuses .entry)) q ⌝ }
+// The refusal number of settings and of what an exchange is given; 0 for none.
+fn card_refused(s: Settings, x: i32, statuses: &[u8], long: bool) -> u8
+    ensures { λ r. ⌜ r ≡ verdict (settingsChecks s ++ valueChecks (s .rack) x (now (statuses .entry)) long) ⌝ }
 {
-    let status = statuses[q];
-    3 < status || n <= q && status != 0
-}
-
-// Whether one of the ten status bytes is bad.
-fn statuses_bad(n: usize, statuses: &[u8]) -> bool
-    requires { ⌜ length (now statuses) ≡ 10 ⌝ }
-    ensures { λ r. ⌜ r ≡ statusesBad n (now (statuses .entry)) ⌝ }
-{
-    for q in 0..Settings::MAX_CARDS {
-        if status_bad(n, statuses, q) {
-            return true;
-        }
-    }
-    false
-}
-
-// Whether the status bytes and the table have their right length.
-fn inputs_long(statuses: &[u8], table: &[i32]) -> bool
-    ensures { λ r. ⌜ r ≡ inputsLong (now (statuses .entry)) (now (table .entry)) ⌝ }
-{
-    statuses.len() == Settings::MAX_CARDS && table.len() == TABLE
-}
-
-fn is_ordinary(word: i32) -> bool
-    ensures { λ r. ⌜ r ≡ isOrdinary (kindOf word) ⌝ }
-{
-    match words::kind_of(word) {
-        Kind::Ordinary => true,
-        Kind::Missing(_) => false,
-        Kind::Bad => false,
-    }
-}
-
-// The refusal number of lengths, statuses and the sender's value; 0 for none.
-fn values_refused(n: usize, x: i32, statuses: &[u8], long: bool) -> u8
-    requires { ⌜ (long ≡ true → length (now statuses) ≡ 10) ⌝ }
-    ensures { λ r. ⌜ r ≡ verdict (valueChecks n x (now (statuses .entry)) long) ⌝ }
-{
-    if !long {
-        return refusal::LONG;
-    }
-    let bad = statuses_bad(n, statuses);
-    let ordinary = is_ordinary(x);
-    if bad {
-        return refusal::STATUS;
-    }
-    if !ordinary {
-        return refusal::VALUE;
-    }
-    0
-}
-
-// The same after the settings.
-fn card_refused(n: usize, m: usize, t: usize, x: i32, statuses: &[u8], p: usize, long: bool) -> u8
-    requires { ⌜ (long ≡ true → length (now statuses) ≡ 10) ⌝ }
-    ensures { λ r. ⌜ r ≡ verdict (settingsChecks n m t p ++ valueChecks n x (now (statuses .entry)) long) ⌝ }
-{
-    let no = paths::settings_refused(n, m, t, p);
-    if no != 0 {
-        return no;
-    }
-    values_refused(n, x, statuses, long)
-}
-
-// The refusal number of a call for one word; 0 for none.
-fn word_refused(
-    n: usize,
-    m: usize,
-    t: usize,
-    x: i32,
-    statuses: &[u8],
-    table: &[i32],
-    p: usize,
-    slot: usize,
-) -> u8
-    ensures { λ r. ⌜ r ≡ verdict (wordChecks n m t x (now (statuses .entry)) (now (table .entry)) p slot) ⌝ }
-{
-    let no = card_refused(n, m, t, x, statuses, p, inputs_long(statuses, table));
-    if no != 0 {
-        return no;
-    }
-    if !paths::live_for(Settings { n, m, t, p }, slot) {
-        return refusal::PATH;
-    }
-    0
+    refusal::first(
+        settings::settings_refused(s),
+        exchange::values_refused(s.rack, x, statuses, long),
+    )
 }
 
 // What card p receives at slot k from a card of this status, which sends `word` if it is good.
@@ -156,13 +61,13 @@ fn relayed(level: usize, word: i32) -> i32
 // The word that card p receives at slot k.
 fn dealt_at(t: usize, x: i32, statuses: &[u8], table: &[i32], k: usize, p: usize) -> i32
     requires { ⌜ Deals t (now statuses) (now table) × (k < slots) × (p < 10) ⌝ }
-    ensures { λ r. ⌜ ((n m : ℕ) → r ≡ dealt omh (exchange n m t x (now (statuses .entry)) (now (table .entry))) k p) ⌝ }
+    ensures { λ r. ⌜ ((rack : Rack) → r ≡ dealt omh (exchange (record { rack = rack; t = t }) x (now (statuses .entry)) (now (table .entry))) k p) ⌝ }
 {
     if k == 0 {
         return sent_by(statuses[t], x, table, k, p);
     }
-    let q = (k - 1) % 10;
-    let above = (k - 1) / 10;
+    let q = paths::last_relay(k);
+    let above = paths::above(k);
     let word = dealt_at(t, x, statuses, table, above, q);
     sent_by(
         statuses[q],
@@ -173,280 +78,201 @@ fn dealt_at(t: usize, x: i32, statuses: &[u8], table: &[i32], k: usize, p: usize
     )
 }
 
-// The word that card p receives on the path at a slot.
-pub fn word_for(
-    n: usize,
-    m: usize,
-    t: usize,
-    x: i32,
-    statuses: &[u8],
-    table: &[i32],
-    p: usize,
-    slot: usize,
-) -> Told
-    ensures { λ r. ⌜ r ≡ toldOf (wordAsked n m t x (now (statuses .entry)) (now (table .entry)) p slot) ⌝ }
+// The word that the own card receives on the path at a slot.
+pub fn word_for(s: Settings, x: i32, statuses: &[u8], table: &[i32], slot: usize) -> Told
+    ensures { λ r. ⌜ ofTold r ≡ wordAsked s x (now (statuses .entry)) (now (table .entry)) slot ⌝ }
 {
-    let no = word_refused(n, m, t, x, statuses, table, p, slot);
+    let mut members = paths::may_relay(s);
+    let live = paths::live_in(s, &mut members, slot);
+    let no = refusal::first(
+        card_refused(s, x, statuses, exchange::inputs_long(statuses, table)),
+        refusal::when(!live, refusal::PATH),
+    );
     if no != 0 {
         return Told::Refused(no);
     }
-    Told::Word(dealt_at(t, x, statuses, table, slot, p))
+    Told::Word(dealt_at(s.t, x, statuses, table, slot, s.p))
+}
+
+// The vote of card p at slot k of level d, on which a card of this status sends, `word` if it is good. So many rounds are left; `members` are the cards that may still relay.
+fn vote_dealt(
+    statuses: &[u8],
+    table: &[i32],
+    p: usize,
+    members: &mut [bool; Settings::MAX_CARDS],
+    left: usize,
+    d: usize,
+    k: usize,
+    status: u8,
+    word: i32,
+) -> i32
+    requires { ⌜ Dealing (now statuses) (now table) p (now members) left d k ⌝ }
+    ensures { λ r. ⌜ (r ≡ dealtVote omh (now (statuses .entry)) (now (table .entry)) p (now (members .entry)) left d k status word) × (now (members .exit) ≡ now (members .entry)) ⌝ }
+{
+    let own = words::read_at(d, sent_by(status, word, table, k, p));
+    if left == 0 {
+        return own;
+    }
+    over_dealt(
+        statuses,
+        table,
+        p,
+        members,
+        own,
+        left - 1,
+        d,
+        k,
+        status,
+        word,
+    )
+}
+
+// Decides the vote from the own reading and the votes of the longer paths, by each member in turn.
+fn over_dealt(
+    statuses: &[u8],
+    table: &[i32],
+    p: usize,
+    members: &mut [bool; Settings::MAX_CARDS],
+    own: i32,
+    left: usize,
+    d: usize,
+    k: usize,
+    status: u8,
+    word: i32,
+) -> i32
+    requires { ⌜ Dealing (now statuses) (now table) p (now members) (left + 1) d k ⌝ }
+    ensures { λ r. ⌜ (r ≡ decided omh own (dealtVotes omh (now (statuses .entry)) (now (table .entry)) p (now (members .entry)) left d k status word 10)) × (now (members .exit) ≡ now (members .entry)) ⌝ }
+{
+    let mut reports = [E; REPORTS];
+    reports[0] = words::wrap(own);
+    let mut count: usize = 1;
+    for q in 0..Settings::MAX_CARDS {
+        if members[q] {
+            members[q] = false;
+            let sender = statuses[q];
+            // Only a good card's word is looked at.
+            let sends = if sender == 0 {
+                relayed(d, sent_by(status, word, table, k, q))
+            } else {
+                E
+            };
+            let vote = vote_dealt(
+                statuses,
+                table,
+                p,
+                members,
+                left,
+                d + 1,
+                10 * k + 1 + q,
+                sender,
+                sends,
+            );
+            members[q] = true;
+            reports[count] = vote;
+            count += 1;
+        }
+    }
+    words::unwrap(words::majority(&reports[..count]))
+}
+
+// The answer of the own card, of settings that are not refused.
+fn dealt_answer(s: Settings, x: i32, statuses: &[u8], table: &[i32]) -> i32
+    requires { ⌜ Deals (s .t) (now statuses) (now table) × (s .rack .m ≤ 3) × (s .p < 10) ⌝ }
+    ensures { λ r. ⌜ r ≡ answerOf (ruleOf (s .rack)) (exchange (turnOf s) x (now (statuses .entry)) (now (table .entry))) (s .p) ⌝ }
+{
+    let mut members = paths::may_relay(s);
+    let left = paths::rounds_left(s, 0);
+    let t = s.t;
+    let status = statuses[t];
+    let own = words::read_at(0, sent_by(status, x, table, 0, s.p));
+    if left == 0 {
+        return own;
+    }
+    over_dealt(
+        statuses,
+        table,
+        s.p,
+        &mut members,
+        own,
+        left - 1,
+        0,
+        0,
+        status,
+        x,
+    )
+}
+
+// The answer of the own card.
+pub fn answer_for(s: Settings, x: i32, statuses: &[u8], table: &[i32]) -> Told
+    ensures { λ r. ⌜ ofTold r ≡ answerForAsked s x (now (statuses .entry)) (now (table .entry)) ⌝ }
+{
+    let no = card_refused(s, x, statuses, exchange::inputs_long(statuses, table));
+    if no != 0 {
+        return Told::Refused(no);
+    }
+    Told::Word(dealt_answer(s, x, statuses, table))
+}
+
+// Puts the answer of each card of the rack in its place.
+fn answer_all(turn: Turn, x: i32, statuses: &[u8], table: &[i32], answers: &mut [i32])
+    requires { ⌜ Deals (turn .t) (now statuses) (now table) × (turn .rack .m ≤ 3) × (length (now answers) ≡ 10) ⌝ }
+    ensures { λ r. ⌜ now (answers .exit) ≡ answersOf (ruleOf (turn .rack)) (exchange turn x (now (statuses .entry)) (now (table .entry))) (now (answers .entry)) ⌝ }
+{
+    let rack = turn.rack;
+    for p in 0..Settings::MAX_CARDS {
+        if settings::fits(rack, p) {
+            answers[p] = dealt_answer(Settings { rack, t: turn.t, p }, x, statuses, table);
+        }
+    }
+}
+
+// The answers of all cards of the rack, each in its place of a list of ten.
+pub fn all_answers(turn: Turn, x: i32, statuses: &[u8], table: &[i32], answers: &mut [i32]) -> Done
+    ensures { λ r. ⌜ outcome (ofDone r) (now (answers .exit)) ≡ answersAsked turn x (now (statuses .entry)) (now (table .entry)) (now (answers .entry)) ⌝ }
+{
+    let long = exchange::inputs_long(statuses, table) & (answers.len() == Settings::MAX_CARDS);
+    let no = refusal::first(
+        settings::turn_refused(turn),
+        exchange::values_refused(turn.rack, x, statuses, long),
+    );
+    if no != 0 {
+        return Done::Refused(no);
+    }
+    answer_all(turn, x, statuses, table, answers);
+    Done::Done
 }
 
 // Deals the words of the own card at its live slots.
 fn deal(s: Settings, x: i32, statuses: &[u8], table: &[i32], words: &mut [i32])
-    requires { ⌜ Deals (s .t) (now statuses) (now table) × (s .m ≤ 3) × (s .p < 10) × (length (now words) ≡ slots) ⌝ }
-    ensures { λ r. ⌜ now (words .exit) ≡ dealtOver omh (exchange (s .n) (s .m) (s .t) x (now (statuses .entry)) (now (table .entry))) (s .p) (now (words .entry)) ⌝ }
+    requires { ⌜ Deals (s .t) (now statuses) (now table) × (s .rack .m ≤ 3) × (s .p < 10) × (length (now words) ≡ slots) ⌝ }
+    ensures { λ r. ⌜ now (words .exit) ≡ dealtOver (ruleOf (s .rack)) (exchange (turnOf s) x (now (statuses .entry)) (now (table .entry))) (s .p) (now (words .entry)) ⌝ }
 {
-    let mut k = 0;
-    while paths::level_of(k) <= s.m {
-        if paths::live_for(s, k) {
+    let relays = paths::may_relay(s);
+    for k in 0..Settings::SLOTS {
+        let mut members = relays;
+        if paths::live_in(s, &mut members, k) {
             words[k] = dealt_at(s.t, x, statuses, table, k, s.p);
         }
-        k += 1;
     }
 }
 
-// The answer of the own card, of settings that are not refused.
-fn answered(s: Settings, words: &[i32]) -> i32
-    requires { ⌜ (verdict (settingsChecks (s .n) (s .m) (s .t) (s .p)) ≡ 0) × (length (now words) ≡ slots) ⌝ }
-    ensures { λ r. ⌜ r ≡ vote omh (rackOf s) (now (words .entry)) 0 ⌝ }
-{
-    match vote::answer(s.n, s.m, s.t, s.p, words) {
-        Voted::Word(word) => word,
-        Voted::Refused(_) => E,
-    }
-}
-
-// The answer of card p.
-pub fn answer_for(
-    n: usize,
-    m: usize,
-    t: usize,
-    x: i32,
-    statuses: &[u8],
-    table: &[i32],
-    p: usize,
-) -> Told
-    ensures { λ r. ⌜ r ≡ toldOf (answerAsked n m t x (now (statuses .entry)) (now (table .entry)) p) ⌝ }
-{
-    let no = card_refused(n, m, t, x, statuses, p, inputs_long(statuses, table));
-    if no != 0 {
-        return Told::Refused(no);
-    }
-    let s = Settings { n, m, t, p };
-    let mut words = [E; Settings::SLOTS];
-    deal(s, x, statuses, table, &mut words);
-    Told::Word(answered(s, &words))
-}
-
-// The refusal number of an exchange's settings, statuses and value; 0 for none.
-pub fn exchange_refused(n: usize, m: usize, t: usize, x: i32, statuses: &[u8]) -> u8
-    ensures { λ r. ⌜ r ≡ verdict (senderChecks n m t ++ valueChecks n x (now (statuses .entry)) (eqb (length (now (statuses .entry))) 10)) ⌝ }
-{
-    let no = paths::sender_refused(n, m, t);
-    if no != 0 {
-        return no;
-    }
-    values_refused(n, x, statuses, statuses.len() == Settings::MAX_CARDS)
-}
-
-// Whether the inputs and the list of answers have their right length.
-fn answers_long(statuses: &[u8], table: &[i32], answers: &[i32]) -> bool
-    ensures { λ r. ⌜ r ≡ (inputsLong (now (statuses .entry)) (now (table .entry)) && eqb (length (now (answers .entry))) 10) ⌝ }
-{
-    if !inputs_long(statuses, table) {
-        return false;
-    }
-    answers.len() == Settings::MAX_CARDS
-}
-
-// The refusal number of a call for all answers; 0 for none.
-fn answers_refused(
-    n: usize,
-    m: usize,
-    t: usize,
-    x: i32,
-    statuses: &[u8],
-    table: &[i32],
-    answers: &[i32],
-) -> u8
-    ensures { λ r. ⌜ r ≡ verdict (answersChecks n m t x (now (statuses .entry)) (now (table .entry)) (now (answers .entry))) ⌝ }
-{
-    let no = paths::sender_refused(n, m, t);
-    if no != 0 {
-        return no;
-    }
-    values_refused(n, x, statuses, answers_long(statuses, table, answers))
-}
-
-// Deals slot 0, on which a sender of this status sends, to each of the ten cards.
-fn deal_first(status: u8, x: i32, table: &[i32], words: &mut [i32])
-    requires { ⌜ (length (now table) ≡ 11110) × (length (now words) ≡ 11110) ⌝ }
-    ensures { λ r. ⌜ SlotDealt (λ p. true) 10 0 (sentTo status x (now (table .entry)) 0) (now (words .entry)) (now (words .exit)) ⌝ }
-{
-    for p in 0..10 {
-        words[Settings::SLOTS * p] = sent_by(status, x, table, 0, p);
-    }
-}
-
-// Deals slot k, on which a card of this status sends, to each of these cards.
-fn deal_slot(status: u8, word: i32, table: &[i32], cards: &[bool; 10], k: usize, words: &mut [i32])
-    requires { ⌜ (length (now table) ≡ 11110) × (length (now cards) ≡ 10) × (k < slots) × (length (now words) ≡ 11110) ⌝ }
-    ensures { λ r. ⌜ SlotDealt (may (now (cards .entry))) 10 k (sentTo status word (now (table .entry)) k) (now (words .entry)) (now (words .exit)) ⌝ }
-{
-    for p in 0..10 {
-        if cards[p] {
-            words[Settings::SLOTS * p + k] = sent_by(status, word, table, k, p);
-        }
-    }
-}
-
-// Deals the slots directly below slot k, each to the cards that are not on its path, and to its last relay, which never looks there.
-fn deal_below(s: Settings, statuses: &[u8], table: &[i32], k: usize, words: &mut [i32])
-    requires { ⌜ Deals (s .t) (now statuses) (now table) × (s .n ≤ 10) × (s .p ≡ 10) × (k < 111) × (length (now words) ≡ 11110) ⌝ }
-    ensures { λ r. ⌜ DealtUnder (λ x. exchange (s .n) (s .m) (s .t) x (now (statuses .entry)) (now (table .entry))) k 10 (now (words .entry)) (now (words .exit)) ⌝ }
-{
-    let level = paths::level_of(k);
-    let cards = paths::members(s, k);
-    for q in 0..10 {
-        if cards[q] {
-            let word = relayed(level, words[Settings::SLOTS * q + k]);
-            deal_slot(statuses[q], word, table, &cards, 10 * k + 1 + q, words);
-        }
-    }
-}
-
-// Deals every card's words, in rising order of slots: what a card sends on it has received before.
-fn deal_all(n: usize, m: usize, t: usize, x: i32, statuses: &[u8], table: &[i32], words: &mut [i32])
-    requires { ⌜ Deals t (now statuses) (now table) × (n ≤ 10) × (m ≤ 3) × (length (now words) ≡ 11110) ⌝ }
-    ensures { λ r. ⌜ DealtBelow omh (exchange n m t x (now (statuses .entry)) (now (table .entry))) slots (now (words .exit)) ⌝ }
-{
-    deal_first(statuses[t], x, table, words);
-    // There is no card 10: a slot is live for it if it is live for any card, and no member is left out.
-    let s = Settings { n, m, t, p: 10 };
-    let mut k = 0;
-    while paths::level_of(k) < m {
-        if paths::live_for(s, k) {
-            deal_below(s, statuses, table, k, words);
-        }
-        k += 1;
-    }
-}
-
-// Puts the answer of each of the n cards from its words to its place.
-fn answer_all(n: usize, m: usize, t: usize, words: &[i32], answers: &mut [i32])
-    requires { ⌜ (verdict (senderChecks n m t) ≡ 0) × (length (now words) ≡ 11110) × (length (now answers) ≡ 10) ⌝ }
-    ensures { λ r. ⌜ now (answers .exit) ≡ table 10 0 (λ p. cond (ltb p n) (cardVote omh (rack n m t p) (now (words .entry))) (at (now (answers .entry)) p)) ⌝ }
-{
-    for p in 0..n {
-        let start = Settings::SLOTS * p;
-        let end = start + Settings::SLOTS;
-        answers[p] = answered(Settings { n, m, t, p }, &words[start..end]);
-    }
-}
-
-// The answers of all n cards, each in its place of a list of ten.
-pub fn all_answers(
-    n: usize,
-    m: usize,
-    t: usize,
-    x: i32,
-    statuses: &[u8],
-    table: &[i32],
-    answers: &mut [i32],
-) -> Done
-    ensures { λ r. ⌜ answersWith r (now (answers .exit)) ≡ answersAsked n m t x (now (statuses .entry)) (now (table .entry)) (now (answers .entry)) ⌝ }
-{
-    let no = answers_refused(n, m, t, x, statuses, table, answers);
-    if no != 0 {
-        return Done::Refused(no);
-    }
-    // Only places dealt to are read: the word to begin with does not matter.
-    let mut words = [0; TABLE];
-    deal_all(n, m, t, x, statuses, table, &mut words);
-    answer_all(n, m, t, &words, answers);
-    Done::Done
-}
-
-// Whether the inputs and both lists of a book have their right length.
-fn book_long(statuses: &[u8], table: &[i32], words: &[i32], votes: &[i32]) -> bool
-    ensures { λ r. ⌜ r ≡ (inputsLong (now (statuses .entry)) (now (table .entry)) && sized (bookOf (now (words .entry)) (now (votes .entry)))) ⌝ }
-{
-    if !inputs_long(statuses, table) {
-        return false;
-    }
-    words.len() == Settings::SLOTS && votes.len() == Settings::SLOTS
-}
-
-// Fills a book for card p.
+// Fills a book for the own card.
 pub fn fill(
-    n: usize,
-    m: usize,
-    t: usize,
+    s: Settings,
     x: i32,
     statuses: &[u8],
     table: &[i32],
-    p: usize,
     words: &mut [i32],
     votes: &mut [i32],
 ) -> Done
-    ensures { λ r. ⌜ outcomeOf r (now (words .exit)) (now (votes .exit)) ≡ fillAsked n m t x (now (statuses .entry)) (now (table .entry)) p (bookOf (now (words .entry)) (now (votes .entry))) ⌝ }
+    ensures { λ r. ⌜ outcome (ofDone r) (bookOf (now (words .exit)) (now (votes .exit))) ≡ fillAsked s x (now (statuses .entry)) (now (table .entry)) (bookOf (now (words .entry)) (now (votes .entry))) ⌝ }
 {
-    let long = book_long(statuses, table, words, votes);
-    let no = card_refused(n, m, t, x, statuses, p, long);
+    let whole = (words.len() == Settings::SLOTS) & (votes.len() == Settings::SLOTS);
+    let long = exchange::inputs_long(statuses, table) & whole;
+    let no = card_refused(s, x, statuses, long);
     if no != 0 {
         return Done::Refused(no);
     }
-    deal(Settings { n, m, t, p }, x, statuses, table, words);
-    book::refill(n, m, t, p, words, votes)
-}
-
-// The refusal number of a call for the bound; 0 for none.
-fn bound_refused(n: usize, m: usize, statuses: &[u8]) -> u8
-    ensures { λ r. ⌜ r ≡ verdict (boundChecks n m (now (statuses .entry))) ⌝ }
-{
-    let no = paths::rounds_refused(n, m);
-    if no != 0 {
-        return no;
-    }
-    if statuses.len() != Settings::MAX_CARDS {
-        return refusal::LONG;
-    }
-    if statuses_bad(n, statuses) {
-        refusal::STATUS
-    } else {
-        0
-    }
-}
-
-// How many of the n cards have this status byte.
-fn count_of(n: usize, statuses: &[u8], status: u8) -> usize
-    requires { ⌜ n ≤ length (now statuses) ⌝ }
-    ensures { λ r. ⌜ r ≡ count (λ q. eqb (getD (now (statuses .entry)) q 0) status) n 0 ⌝ }
-{
-    let mut found: usize = 0;
-    for q in 0..n {
-        if statuses[q] == status {
-            found += 1;
-        }
-    }
-    found
-}
-
-// Whether the bound holds: n > 2a + 2s + c + m, and a is at most m.
-pub fn bound(n: usize, m: usize, statuses: &[u8]) -> Bounded
-    ensures { λ r. ⌜ r ≡ boundedOf (boundAsked n m (now (statuses .entry))) ⌝ }
-{
-    let no = bound_refused(n, m, statuses);
-    if no != 0 {
-        return Bounded::Refused(no);
-    }
-    let a = count_of(n, statuses, 1);
-    let s = count_of(n, statuses, 2);
-    let c = count_of(n, statuses, 3);
-    if 2 * a + 2 * s + c + m < n && a <= m {
-        return Bounded::Held;
-    }
-    Bounded::NotHeld
+    deal(s, x, statuses, table, words);
+    refilling::refill(s, words, votes)
 }

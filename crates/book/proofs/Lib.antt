@@ -1,14 +1,2 @@
-pub mod Leaf
-pub mod Taking
-pub mod Along
-pub mod Entering
-pub mod FromOpening
-pub mod Refilling
-pub mod Filling
-pub mod OnlyLive
-pub mod LastWord
-pub mod Steps
-pub mod Demand3
-pub mod Outcomes
-pub mod Calls
+pub mod Asking
 pub mod Fixed

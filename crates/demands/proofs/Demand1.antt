@@ -1,204 +1,179 @@
--- Demand 1: bad input gets the refusal number of document 01's table, by the stated order of checks (`Order.antt`); no refusal is given on other grounds; a refusal changes nothing that is lent. An entry point to a theorem, over what its contract gives.
-use Prim.Native.Nat.{ℕ, zero, suc}
-use mathlib.Core.Path.{_≡_, refl, ap}
-use mathlib.Core.Bool.{Bool, true, false}
-use mathlib.Core.List.{List, _++_}
-use native.Mathlib.Omega.{arith}
-use lib.IntN.{ℤ}
-use Rattle.paths.specs.Checks.{Check, verdict, Answer, value, refused, answer, after}
-use Rattle.paths.specs.Rack.{settingsChecks}
-use Rattle.paths.specs.Asked as paths
-use Rattle.paths.specs.declared.Settings.{Settings}
-use Rattle.paths.proofs.Verdicts.{after-refused}
-use Rattle.paths.specs.declared.Checked.the-variants as checked
-use Rattle.paths.specs.declared.Place.the-variants as place
-use Rattle.paths.specs.declared.Liveness.the-variants as liveness
+-- Demand 1: bad input gets the refusal number of document 01's table, by the stated order of checks (`Orders.antt`); no refusal is given on other grounds; a refusal changes nothing that is lent. A theorem to an entry point, of every call that its contract allows: argument i is `a` with i times `.1` and then `.0`, and a lent list at exit the same of `s`.
+use denote.Ref.{now}
+use Rattle.ground.specs.Answer.{ofTold, ofDone}
+use Rattle.ground.specs.Fixes.{Allows}
+use Rattle.settings.specs.Settings.{rackChecks, turnChecks, settingsChecks}
+use Rattle.settings.specs.Asked.{ofChecked, settings}
+use Rattle.paths.specs.Asked.{ofPlace, ofLiveness, pathChecks, slotAsked, aboveChecks, aboveAsked, liveAsked}
 use Rattle.vote.specs.Asked as vote
-use Rattle.vote.specs.declared.Voted.the-variants as voted
-use Rattle.book.specs.Book.{Book}
-use Rattle.book.specs.Asked as book
-use Rattle.book.specs.declared.Done.the-variants as done
-use Rattle.book.specs.declared.Held.the-variants as held
-use Rattle.frames.specs.Asked as frames
-use Rattle.frames.specs.Entry as entry
-use Rattle.frames.specs.declared.Frame.{Frame}
-use Rattle.frames.specs.declared.Parsed.the-variants as parsed
-use Rattle.frames.specs.declared.Written.the-variants as written
+use Rattle.vote.specs.Asked.{wordsChecks, voteChecks, voteAsked}
+use Rattle.book.specs.Book.{bookOf}
+use Rattle.book.specs.Asked.{bookChecks, slotChecks, heldChecks}
+use Rattle.frames.specs.Asked.{ofParsed, readChecks, readAsked, writeChecks, writeAsked}
+use Rattle.arrivals.specs.Entry.{arrivalChecks, frameAsked}
+use Rattle.exchange.specs.Asked.{statusChecks, valueChecks}
 use Rattle.bench.specs.Asked as bench
-use Rattle.bench.specs.declared.Told.the-variants as told
-use Rattle.bench.specs.declared.Bounded.the-variants as bound
-use Rattle.bench.specs.Bound.{bounded}
-use Rattle.trials.specs.File.{cards, fileChecks, exchangeOf}
-use Rattle.trials.specs.Listing.{lines, cardLine, boundLine, refusedLine, textOf}
-use Rattle.omh.specs.Numbers.{numbered, placedAs}
-use Rattle.demands.specs.Refusing.{NoneOf, First, Refuses}
-use Rattle.demands.proofs.Order.{refuses, first-verdict, none-verdict}
+use Rattle.bench.specs.Asked.{wordChecks, wordAsked, answerChecks, answersChecks, answersAsked, fillChecks, fillAsked}
+use Rattle.bound.specs.Bound.{ofBounded, boundChecks, boundAsked}
+use Rattle.files.specs.File.{ofHeaded, fileChecks, fileAsked}
+use Rattle.demands.specs.Refusing.{Refuses, Judged, Counted}
+use Rattle.demands.proofs.Order.{by-answer, by-outcome, by-verdict}
+use Rattle.settings.proofs.Settings.new.Kinds as new
+use Rattle.settings.proofs.Settings.new.Reads as new-says
+use Rattle.paths.proofs.slot_of.Kinds as slot-of
+use Rattle.paths.proofs.slot_of.Reads as slot-of-says
+use Rattle.paths.proofs.slot_above.Kinds as slot-above
+use Rattle.paths.proofs.slot_above.Reads as slot-above-says
+use Rattle.paths.proofs.is_live.Kinds as is-live
+use Rattle.paths.proofs.is_live.Reads as is-live-says
+use Rattle.vote.proofs.vote_at.Kinds as vote-at
+use Rattle.vote.proofs.vote_at.Reads as vote-at-says
+use Rattle.vote.proofs.answer.Kinds as answer
+use Rattle.vote.proofs.answer.Reads as answer-says
+use Rattle.book.proofs.open.Kinds as opening
+use Rattle.book.proofs.open.Reads as opening-says
+use Rattle.entering.proofs.enter.Kinds as enter
+use Rattle.entering.proofs.enter.Reads as enter-says
+use Rattle.refilling.proofs.refill.Kinds as refill
+use Rattle.refilling.proofs.refill.Reads as refill-says
+use Rattle.book.proofs.held_answer.Kinds as held-answer
+use Rattle.book.proofs.held_answer.Reads as held-answer-says
+use Rattle.frames.proofs.read.Kinds as read
+use Rattle.frames.proofs.read.Reads as read-says
+use Rattle.frames.proofs.write.Kinds as write
+use Rattle.frames.proofs.write.Reads as write-says
+use Rattle.arrivals.proofs.enter.Kinds as enter-frame
+use Rattle.arrivals.proofs.enter.Reads as enter-frame-says
+use Rattle.bench.proofs.word_for.Kinds as word-for
+use Rattle.bench.proofs.word_for.Reads as word-for-says
+use Rattle.bench.proofs.answer_for.Kinds as answer-for
+use Rattle.bench.proofs.answer_for.Reads as answer-for-says
+use Rattle.bench.proofs.all_answers.Kinds as all-answers
+use Rattle.bench.proofs.all_answers.Reads as all-answers-says
+use Rattle.bench.proofs.fill.Kinds as fill
+use Rattle.bench.proofs.fill.Reads as fill-says
+use Rattle.bound.proofs.bound.Kinds as bound
+use Rattle.bound.proofs.bound.Reads as bound-says
+use Rattle.files.proofs.read.Kinds as read-file
+use Rattle.files.proofs.read.Reads as read-file-says
+use Rattle.settings.proofs.rack_refused.Kinds as rack-refused
+use Rattle.settings.proofs.rack_refused.Reads as rack-refused-says
+use Rattle.settings.proofs.turn_refused.Kinds as turn-refused
+use Rattle.settings.proofs.turn_refused.Reads as turn-refused-says
+use Rattle.settings.proofs.settings_refused.Kinds as settings-refused
+use Rattle.settings.proofs.settings_refused.Reads as settings-refused-says
+use Rattle.book.proofs.book_refused.Kinds as book-refused
+use Rattle.book.proofs.book_refused.Reads as book-refused-says
+use Rattle.frames.proofs.refused.Kinds as bytes-refused
+use Rattle.frames.proofs.refused.Reads as bytes-refused-says
+use Rattle.exchange.proofs.statuses_refused.Kinds as statuses-refused
+use Rattle.exchange.proofs.statuses_refused.Reads as statuses-refused-says
+use Rattle.exchange.proofs.values_refused.Kinds as values-refused
+use Rattle.exchange.proofs.values_refused.Reads as values-refused-says
 
--- a call that is lent nothing to write
-abbrev Judged : {Y : Type 0} → List Check → (ℕ → Y) → Y → Type 0
-Judged cs refusal yields = Refuses cs refusal yields (tt {0}) (after (verdict cs) (tt {0}) (tt {0}))
+-- ---- settings and paths
 
--- ---- a refusal's number is told by the answer's case
+pub new-refuses : Allows 0 new.ps new.r new-says.Post (λ κs a x s. Judged (settingsChecks (settings (a .0) (a .1 .0) (a .1 .1 .0) (a .1 .1 .1 .0))) (ofChecked x))
+new-refuses κs a x s p = by-answer _ _ p
 
-checked-as : (x : Answer Settings) (k : ℕ) → paths.checkedOf x ≡ checked.Refused k → x ≡ refused k
-checked-as (value a) k e = let z : _≡_ {A = ℕ} 0 1 = cc e in absurd (omega arith)
-checked-as (refused j) k e = ap refused (cc e)
+pub slot-of-refuses : Allows 0 slot-of.ps slot-of.r slot-of-says.Post (λ κs a x s. Judged (pathChecks (a .0) (a .1 .0) (a .1 .1 .0) (a .1 .1 .1 .0)) (ofPlace x))
+unfolding slotAsked
+slot-of-refuses κs a x s p = by-answer _ _ p
 
-placed-as : (x : Answer ℕ) (k : ℕ) → paths.placeOf x ≡ place.Refused k → x ≡ refused k
-placed-as (value a) k e = let z : _≡_ {A = ℕ} 0 1 = cc e in absurd (omega arith)
-placed-as (refused j) k e = ap refused (cc e)
+pub slot-above-refuses : Allows 0 slot-above.ps slot-above.r slot-above-says.Post (λ κs a x s. Judged (aboveChecks (a .0)) (ofPlace x))
+unfolding aboveAsked
+slot-above-refuses κs a x s p = by-answer _ _ p
 
-live-as : (x : Answer Bool) (k : ℕ) → paths.livenessOf x ≡ liveness.Refused k → x ≡ refused k
-live-as (value a) k e = let z : _≡_ {A = ℕ} 0 1 = cc e in absurd (omega arith)
-live-as (refused j) k e = ap refused (cc e)
+pub is-live-refuses : Allows 0 is-live.ps is-live.r is-live-says.Post (λ κs a x s. Judged (settingsChecks (a .0)) (ofLiveness x))
+unfolding liveAsked
+is-live-refuses κs a x s p = by-answer _ _ p
 
-voted-as : (x : Answer ℤ) (k : ℕ) → vote.votedOf x ≡ voted.Refused k → x ≡ refused k
-voted-as (value a) k e = let z : _≡_ {A = ℕ} 0 1 = cc e in absurd (omega arith)
-voted-as (refused j) k e = ap refused (cc e)
+-- ---- the vote
 
-done-as : (x : Answer (Unit {0})) (k : ℕ) → book.doneOf x ≡ done.Refused k → x ≡ refused k
-done-as (value a) k e = let z : _≡_ {A = ℕ} 0 1 = cc e in absurd (omega arith)
-done-as (refused j) k e = ap refused (cc e)
+pub vote-at-refuses : Allows 1 vote-at.ps vote-at.r vote-at-says.Post (λ κs a x s. Judged (voteChecks (a .0) (now (a .1 .0)) (a .1 .1 .0)) (ofTold x))
+unfolding voteAsked
+vote-at-refuses κs a x s p = by-answer _ _ p
 
-held-as : (x : Answer ℤ) (k : ℕ) → book.heldOf x ≡ held.Refused k → x ≡ refused k
-held-as (value a) k e = let z : _≡_ {A = ℕ} 0 1 = cc e in absurd (omega arith)
-held-as (refused j) k e = ap refused (cc e)
+pub answer-refuses : Allows 1 answer.ps answer.r answer-says.Post (λ κs a x s. Judged (wordsChecks (a .0) (now (a .1 .0))) (ofTold x))
+unfolding vote.answerAsked
+answer-refuses κs a x s p = by-answer _ _ p
 
-parsed-as : (x : Answer Frame) (k : ℕ) → frames.parsedOf x ≡ parsed.Refused k → x ≡ refused k
-parsed-as (value a) k e = let z : _≡_ {A = ℕ} 0 1 = cc e in absurd (omega arith)
-parsed-as (refused j) k e = ap refused (cc e)
+-- ---- the book
 
-written-as : (x : Answer (Unit {0})) (k : ℕ) → frames.writtenOf x ≡ written.Refused k → x ≡ refused k
-written-as (value a) k e = let z : _≡_ {A = ℕ} 0 1 = cc e in absurd (omega arith)
-written-as (refused j) k e = ap refused (cc e)
+pub opening-refuses : Allows 2 opening.ps opening.r opening-says.Post (λ κs a x s. Refuses (bookChecks (a .0) (bookOf (now (a .1 .0)) (now (a .1 .1 .0)))) (ofDone x) (bookOf (now (a .1 .0)) (now (a .1 .1 .0))) (bookOf (now (s .1 .0)) (now (s .1 .1 .0))))
+opening-refuses κs a x s p = by-outcome _ _ p
 
-told-as : (x : Answer ℤ) (k : ℕ) → bench.toldOf x ≡ told.Refused k → x ≡ refused k
-told-as (value a) k e = let z : _≡_ {A = ℕ} 0 1 = cc e in absurd (omega arith)
-told-as (refused j) k e = ap refused (cc e)
+pub enter-refuses : Allows 2 enter.ps enter.r enter-says.Post (λ κs a x s. Refuses (slotChecks (a .0) (bookOf (now (a .1 .0)) (now (a .1 .1 .0))) (a .1 .1 .1 .0)) (ofDone x) (bookOf (now (a .1 .0)) (now (a .1 .1 .0))) (bookOf (now (s .1 .0)) (now (s .1 .1 .0))))
+enter-refuses κs a x s p = by-outcome _ _ p
 
-bounded-as : (x : Answer Bool) (k : ℕ) → bench.boundedOf x ≡ bound.Refused k → x ≡ refused k
-bounded-as (value true) k e = let z : _≡_ {A = ℕ} 0 1 = cc e in absurd (omega arith)
-bounded-as (value false) k e = let z : _≡_ {A = ℕ} 0 1 = cc e in absurd (omega arith)
-bounded-as (refused j) k e = ap refused (cc e)
+-- its words are lent to be read only
+pub refill-refuses : Allows 2 refill.ps refill.r refill-says.Post (λ κs a x s. Refuses (bookChecks (a .0) (bookOf (now (a .1 .0)) (now (a .1 .1 .0)))) (ofDone x) (bookOf (now (a .1 .0)) (now (a .1 .1 .0))) (bookOf (now (a .1 .0)) (now (s .1 .1 .0))))
+refill-refuses κs a x s p = by-outcome _ _ p
 
--- ---- the entry points
+pub held-answer-refuses : Allows 2 held-answer.ps held-answer.r held-answer-says.Post (λ κs a x s. Judged (heldChecks (bookOf (now (a .0)) (now (a .1 .0)))) (ofTold x))
+held-answer-refuses κs a x s p = by-answer _ _ p
 
-module _ (n m t p k : ℕ) where
-  pub settings : Judged (settingsChecks n m t p) checked.Refused (paths.checkedOf (paths.settingsAsked n m t p))
-  settings = refuses _ paths.checkedOf checked.Refused (λ k. refl) checked-as _ _ _
+-- ---- frames
 
-  pub slot-of : (q1 q2 q3 : ℕ) → Judged (paths.pathChecks k q1 q2 q3) place.Refused (paths.placeOf (paths.slotAsked k q1 q2 q3))
-  unfolding paths.slotAsked
-  slot-of q1 q2 q3 = refuses _ paths.placeOf place.Refused (λ k. refl) placed-as _ _ _
+pub read-refuses : Allows 1 read.ps read.r read-says.Post (λ κs a x s. Judged (readChecks (now (a .0))) (ofParsed x))
+unfolding readAsked
+read-refuses κs a x s p = by-answer _ _ p
 
-  pub slot-above : Judged (paths.aboveChecks k) place.Refused (paths.placeOf (paths.aboveAsked k))
-  unfolding paths.aboveAsked
-  slot-above = refuses _ paths.placeOf place.Refused (λ k. refl) placed-as _ _ _
+pub write-refuses : Allows 1 write.ps write.r write-says.Post (λ κs a x s. Refuses (writeChecks (a .0) (now (a .1 .0))) (ofDone x) (now (a .1 .0)) (now (s .1 .0)))
+unfolding writeAsked
+write-refuses κs a x s p = by-outcome _ _ p
 
-  pub is-live : Judged (settingsChecks n m t p) liveness.Refused (paths.livenessOf (paths.liveAsked n m t p k))
-  unfolding paths.liveAsked
-  is-live = refuses _ paths.livenessOf liveness.Refused (λ k. refl) live-as _ _ _
+pub enter-frame-refuses : Allows 3 enter-frame.ps enter-frame.r enter-frame-says.Post (λ κs a x s. Refuses (arrivalChecks (a .0) (bookOf (now (a .1 .0)) (now (a .1 .1 .0))) (a .1 .1 .1 .0) (now (a .1 .1 .1 .1 .0))) (ofDone x) (bookOf (now (a .1 .0)) (now (a .1 .1 .0))) (bookOf (now (s .1 .0)) (now (s .1 .1 .0))))
+unfolding frameAsked
+enter-frame-refuses κs a x s p = by-outcome _ _ p
 
-  module _ (words : List ℤ) where
-    pub vote-at : Judged (vote.slotChecks n m t p words k) voted.Refused (vote.votedOf (vote.voteAsked n m t p words k))
-    unfolding vote.voteAsked
-    vote-at = refuses _ vote.votedOf voted.Refused (λ k. refl) voted-as _ _ _
+-- ---- the bench
 
-    pub vote-answer : Judged (vote.wordsChecks n m t p words) voted.Refused (vote.votedOf (vote.answerAsked n m t p words))
-    unfolding vote.answerAsked
-    vote-answer = refuses _ vote.votedOf voted.Refused (λ k. refl) voted-as _ _ _
+pub word-for-refuses : Allows 2 word-for.ps word-for.r word-for-says.Post (λ κs a x s. Judged (wordChecks (a .0) (a .1 .0) (now (a .1 .1 .0)) (now (a .1 .1 .1 .0)) (a .1 .1 .1 .1 .0)) (ofTold x))
+unfolding wordAsked
+word-for-refuses κs a x s p = by-answer _ _ p
 
-  module _ (b : Book) where
-    -- a call on a book: both lists are as they were
-    abbrev Kept : List Check → book.Outcome done.the-data → Type 0
-    Kept cs o = Refuses cs done.Refused (o .yields) b (o .leaves)
+pub answer-for-refuses : Allows 2 answer-for.ps answer-for.r answer-for-says.Post (λ κs a x s. Judged (answerChecks (a .0) (a .1 .0) (now (a .1 .1 .0)) (now (a .1 .1 .1 .0))) (ofTold x))
+unfolding bench.answerForAsked
+answer-for-refuses κs a x s p = by-answer _ _ p
 
-    by-outcome : (cs : List Check) (made : Book) → Kept cs (book.outcome (verdict cs) b made)
-    unfolding book.outcome
-    by-outcome cs made = refuses cs book.doneOf done.Refused (λ k. refl) done-as tt b made
+pub all-answers-refuses : Allows 3 all-answers.ps all-answers.r all-answers-says.Post (λ κs a x s. Refuses (answersChecks (a .0) (a .1 .0) (now (a .1 .1 .0)) (now (a .1 .1 .1 .0)) (now (a .1 .1 .1 .1 .0))) (ofDone x) (now (a .1 .1 .1 .1 .0)) (now (s .1 .1 .1 .1 .0)))
+unfolding answersAsked
+all-answers-refuses κs a x s p = by-outcome _ _ p
 
-    pub open-book : Kept (book.bookChecks n m t p b) (book.openAsked n m t p b)
-    open-book = by-outcome _ _
+pub fill-refuses : Allows 4 fill.ps fill.r fill-says.Post (λ κs a x s. Refuses (fillChecks (a .0) (a .1 .0) (now (a .1 .1 .0)) (now (a .1 .1 .1 .0)) (bookOf (now (a .1 .1 .1 .1 .0)) (now (a .1 .1 .1 .1 .1 .0)))) (ofDone x) (bookOf (now (a .1 .1 .1 .1 .0)) (now (a .1 .1 .1 .1 .1 .0))) (bookOf (now (s .1 .1 .1 .1 .0)) (now (s .1 .1 .1 .1 .1 .0))))
+unfolding fillAsked
+fill-refuses κs a x s p = by-outcome _ _ p
 
-    pub enter-word : (word : ℤ) → Kept (book.slotChecks n m t p b k) (book.enterAsked n m t p b k word)
-    enter-word word = by-outcome _ _
+pub bound-refuses : Allows 1 bound.ps bound.r bound-says.Post (λ κs a x s. Judged (boundChecks (a .0) (now (a .1 .0))) (ofBounded x))
+unfolding boundAsked
+bound-refuses κs a x s p = by-answer _ _ p
 
-    pub refill : Kept (book.bookChecks n m t p b) (book.refillAsked n m t p b)
-    refill = by-outcome _ _
+-- ---- listing files
 
-    pub held-answer : Judged (book.heldChecks b) held.Refused (book.heldOf (book.heldAsked b))
-    held-answer = refuses _ book.heldOf held.Refused (λ k. refl) held-as _ _ _
+pub read-file-refuses : Allows 1 read-file.ps read-file.r read-file-says.Post (λ κs a x s. Judged (fileChecks (now (a .0))) (ofHeaded x))
+unfolding fileAsked
+read-file-refuses κs a x s p = by-answer _ _ p
 
-    pub enter-frame : (current : ℕ) (bytes : List ℕ) → Kept (entry.enterChecks n m t p b current bytes) (entry.frameAsked n m t p b current bytes)
-    unfolding entry.frameAsked
-    enter-frame current bytes = by-outcome _ _
+-- ---- the refusal numbers themselves
 
-    module _ (x : ℤ) (statuses : List ℕ) (words : List ℤ) where
-      pub bench-fill : Kept (bench.fillChecks n m t x statuses words p b) (bench.fillAsked n m t x statuses words p b)
-      bench-fill = by-outcome _ _
+pub rack-refused-refuses : Allows 0 rack-refused.ps rack-refused.r rack-refused-says.Post (λ κs a x s. Counted (rackChecks (a .0)) x)
+rack-refused-refuses κs a x s p = by-verdict _ p
 
-      pub bench-word : Judged (bench.wordChecks n m t x statuses words p k) told.Refused (bench.toldOf (bench.wordAsked n m t x statuses words p k))
-      unfolding bench.wordAsked
-      bench-word = refuses _ bench.toldOf told.Refused (λ k. refl) told-as _ _ _
+pub turn-refused-refuses : Allows 0 turn-refused.ps turn-refused.r turn-refused-says.Post (λ κs a x s. Counted (turnChecks (a .0)) x)
+turn-refused-refuses κs a x s p = by-verdict _ p
 
-      pub bench-answer : Judged (bench.answerChecks n m t x statuses words p) told.Refused (bench.toldOf (bench.answerAsked n m t x statuses words p))
-      unfolding bench.answerAsked
-      bench-answer = refuses _ bench.toldOf told.Refused (λ k. refl) told-as _ _ _
+pub settings-refused-refuses : Allows 0 settings-refused.ps settings-refused.r settings-refused-says.Post (λ κs a x s. Counted (settingsChecks (a .0)) x)
+settings-refused-refuses κs a x s p = by-verdict _ p
 
-      pub bench-answers : (list : List ℤ) → Refuses (bench.answersChecks n m t x statuses words list) done.Refused (bench.answersAsked n m t x statuses words list .yields) list (bench.answersAsked n m t x statuses words list .leaves)
-      unfolding bench.answersAsked
-      bench-answers list = refuses _ book.doneOf done.Refused (λ k. refl) done-as tt list _
+pub book-refused-refuses : Allows 2 book-refused.ps book-refused.r book-refused-says.Post (λ κs a x s. Counted (bookChecks (a .0) (bookOf (now (a .1 .0)) (now (a .1 .1 .0)))) x)
+book-refused-refuses κs a x s p = by-verdict _ p
 
-      pub bench-bound : Judged (bench.boundChecks n m statuses) bound.Refused (bench.boundedOf (bench.boundAsked n m statuses))
-      unfolding bench.boundAsked
-      bench-bound = refuses _ bench.boundedOf bound.Refused (λ k. refl) bounded-as _ _ _
+pub bytes-refused-refuses : Allows 1 bytes-refused.ps bytes-refused.r bytes-refused-says.Post (λ κs a x s. Counted (readChecks (now (a .0))) x)
+bytes-refused-refuses κs a x s p = by-verdict _ p
 
-pub read-frame : (bytes : List ℕ) → Judged (frames.readChecks bytes) parsed.Refused (frames.parsedOf (frames.readAsked bytes))
-unfolding frames.readAsked
-read-frame bytes = refuses _ frames.parsedOf parsed.Refused (λ k. refl) parsed-as _ _ _
+pub statuses-refused-refuses : Allows 1 statuses-refused.ps statuses-refused.r statuses-refused-says.Post (λ κs a x s. Counted (statusChecks (a .0) (a .1 .0) (now (a .1 .1 .0))) x)
+statuses-refused-refuses κs a x s p = by-verdict _ p
 
-pub write-frame : (f : Frame) (buffer : List ℕ) → Refuses (frames.writeChecks f buffer) written.Refused (frames.writeAsked f buffer .yields) buffer (frames.writeAsked f buffer .leaves)
-unfolding frames.writeAsked
-write-frame f buffer = refuses _ frames.writtenOf written.Refused (λ k. refl) written-as tt buffer _
-
--- a listing file: its text is the first refusal's line, and the cards' lines and the bound's where no check applies
-module _ (file : List ℕ) where
-  pub listing-refused : (k : ℕ) → First (fileChecks file) (suc k) → textOf file ≡ refusedLine (suc k)
-  unfolding textOf answer
-  listing-refused k f = rw (first-verdict (fileChecks file) (suc k) f)
-
-  pub listing-printed : NoneOf (fileChecks file) → textOf file ≡ lines (cardLine file) (cards file) ++ boundLine (bounded (exchangeOf file))
-  unfolding textOf answer
-  listing-printed none = rw (none-verdict (fileChecks file) none)
-
--- ---- what C sees: the number is the verdict, and a verdict changes nothing that is lent
-
-module _ {A B : Type 0} (v : ℕ) (a : A) (form : A → B) (before : B) where
-  pub c-number : placedAs form (answer v a) before .number ≡ v
-  unfolding answer
-  c-number = go v
-    where
-      go : (v : ℕ) → placedAs form (answer v a) before .number ≡ v
-      go zero = refl
-      go (suc v) = refl
-
-  pub c-place : (v ≡ 0 → ⊥) → placedAs form (answer v a) before .lent ≡ before
-  unfolding answer
-  c-place n = go v n
-    where
-      go : (v : ℕ) → (v ≡ 0 → ⊥) → placedAs form (answer v a) before .lent ≡ before
-      go zero n = absurd (n refl)
-      go (suc v) n = refl
-
-module _ (v : ℕ) (b made : Book) where
-  pub c-book-number : numbered (book.outcome v b made) .yields ≡ v
-  unfolding book.outcome answer
-  c-book-number = go v
-    where
-      go : (v : ℕ) → numbered (book.outcome v b made) .yields ≡ v
-      go zero = refl
-      go (suc v) = refl
-
-  pub c-book : (v ≡ 0 → ⊥) → numbered (book.outcome v b made) .leaves ≡ b
-  unfolding book.outcome
-  c-book n = after-refused v b made n
+pub values-refused-refuses : Allows 1 values-refused.ps values-refused.r values-refused-says.Post (λ κs a x s. Counted (valueChecks (a .0) (a .1 .0) (now (a .1 .1 .0)) (a .1 .1 .1 .0)) x)
+values-refused-refuses κs a x s p = by-verdict _ p

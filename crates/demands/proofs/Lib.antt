@@ -1,3 +1,10 @@
 pub mod Table
 pub mod Order
+pub mod Orders
 pub mod Demand1
+pub mod Demand1C
+pub mod Listing
+pub mod Cards
+pub mod Demand2
+pub mod Runs
+pub mod Demand3

@@ -1,28 +1,19 @@
--- Demand 1, the laws: a verdict is the number of the first check that applies; and the order of numbers for each call.
+-- Demand 1, the laws: a verdict is the number of the first check that applies.
 use Prim.Native.Nat.{ℕ, zero, suc}
-use mathlib.Core.Path.{_≡_, refl, ap, _∙_}
+use mathlib.Core.Path.{_≡_, refl, sym, ap, _∙_}
 use mathlib.Core.Bool.{Bool, true, false, cond}
 use mathlib.Core.List.{List, [], _∷_, _++_}
 use native.Mathlib.Omega.{arith}
-use lib.IntN.{ℤ}
-use Rattle.paths.specs.Checks.{Check, check, verdict, Answer, refused, answer, after}
-use Rattle.paths.specs.Rack.{settingsChecks}
-use Rattle.paths.specs.Asked as paths
-use Rattle.paths.proofs.Verdicts.{after-refused}
-use Rattle.vote.specs.Asked as vote
-use Rattle.book.specs.Book.{Book}
-use Rattle.book.specs.Asked as book
-use Rattle.frames.specs.Asked as frames
-use Rattle.frames.specs.Entry as frames-entry
-use Rattle.frames.specs.declared.Frame.{Frame}
-use Rattle.bench.specs.Asked as bench
-use Rattle.trials.specs.File as trials
-use Rattle.demands.specs.Refusing.{numbers, NoneOf, First, Refuses}
+use Rattle.ground.specs.Checks.{Check, check, verdict, NoneOf}
+use Rattle.ground.specs.Answer.{Answer, refused, answer, Outcome, outcome, after, outcomeBy}
+use Rattle.ground.proofs.Answers.{refused-verdict, refused-leaves}
+use Rattle.omh.specs.Numbers.{numberOf, numbered, placedAs}
+use Rattle.demands.specs.Refusing.{First, Refuses, Numbers, Judged, Counted}
 
 -- ---- the order of checks
 
 -- a verdict says that the check of that number applies, and no earlier one does
-pub verdict-first : (cs : List Check) (k : ℕ) → verdict cs ≡ suc k → First cs (suc k)
+verdict-first : (cs : List Check) (k : ℕ) → verdict cs ≡ suc k → First cs (suc k)
 unfolding verdict
 verdict-first [] k e = absurd (omega arith)
 verdict-first (c ∷ cs) k e = go (c .applies) refl e (verdict-first cs k)
@@ -46,87 +37,69 @@ pub first-verdict : (cs : List Check) (k : ℕ) → First cs k → verdict cs �
 unfolding verdict
 first-verdict cs k f = ap verdict (f .split) ∙ passing (f .before) (check k true ∷ f .rest) (f .earlier)
 
--- where no check applies there is no verdict
-pub none-verdict : (cs : List Check) → NoneOf cs → verdict cs ≡ 0
-unfolding verdict
-none-verdict [] n = refl
-none-verdict (c ∷ cs) n = rw (n .0) (none-verdict cs (n .1))
+-- ---- a call by its verdict
 
--- a call that yields its verdict's number, and a lent list by the verdict
-module _ {A Y L : Type 0} (cs : List Check) (form : Answer A → Y) (refusal : ℕ → Y) (is : (k : ℕ) → form (refused k) ≡ refusal k) (told : (x : Answer A) (k : ℕ) → form x ≡ refusal k → x ≡ refused k) (a : A) (before made : L) where
-  number-is : (v k : ℕ) → answer v a ≡ refused k → (v ≡ k) × (v ≡ 0 → ⊥)
-  unfolding answer
-  number-is zero k e = let z : _≡_ {A = ℕ} 0 1 = cc e in absurd (omega arith)
-  number-is (suc v) k e = (cc e, λ z. omega arith)
+module _ (cs : List Check) where
+  -- a verdict that is k, and not 0
+  pub first-of : (k : ℕ) → verdict cs ≡ k → (k ≡ 0 → ⊥) → First cs k
+  first-of zero e n = absurd (n refl)
+  first-of (suc k) e n = verdict-first cs k e
 
-  found : (k : ℕ) → form (answer (verdict cs) a) ≡ refusal k → (verdict cs ≡ k) × (verdict cs ≡ 0 → ⊥)
-  found k e = number-is (verdict cs) k (told (answer (verdict cs) a) k e)
+  module _ {A L : Type 0} (a : A) (before made : L) {y : Answer A} {l : L} (e : y ≡ answer (verdict cs) a) (f : l ≡ after (verdict cs) before made) where
+    told : (k : ℕ) → y ≡ refused k → (verdict cs ≡ k) × (verdict cs ≡ 0 → ⊥)
+    told k q = refused-verdict a (verdict cs) (sym e ∙ q)
 
-  first-of : (v k : ℕ) → verdict cs ≡ v → (v ≡ k) × (v ≡ 0 → ⊥) → First cs k
-  first-of zero k e h = absurd (h .1 refl)
-  first-of (suc v) k e h = rw (← (h .0)) (verdict-first cs v e)
+    refuses : Refuses cs y before l
+    unfolding answer
+    refuses = record {
+      only = λ k q. let t = told k q in first-of k (t .0) (λ z. t .1 (t .0 ∙ z));
+      always = λ k q. e ∙ rw (first-verdict cs (suc k) q);
+      unchanged = λ k q. f ∙ refused-leaves (verdict cs) before made (told k q .1);
+    }
 
-  pub refuses : Refuses cs refusal (form (answer (verdict cs) a)) before (after (verdict cs) before made)
-  unfolding answer
-  refuses = record {
-    only = λ k e. first-of (verdict cs) k refl (found k e);
-    always = λ k f. rw (first-verdict cs (suc k) f) (is (suc k));
-    unchanged = λ k e. after-refused (verdict cs) before made (found k e .1);
+  -- an answer
+  pub by-answer : {A : Type 0} (a : A) {y : Answer A} → y ≡ answer (verdict cs) a → Judged cs y
+  by-answer a e = refuses a (tt {0}) (tt {0}) e refl
+
+  -- an outcome
+  pub by-outcome : {L : Type 0} (made : L) {before l : L} {y : Answer (Unit {0})} → outcome y l ≡ outcomeBy (verdict cs) before made → Refuses cs y before l
+  unfolding outcomeBy
+  by-outcome {L} made {before} e = refuses tt before made (ap (λ (o : Outcome (Answer (Unit {0})) L). o .yields) e) (ap (λ (o : Outcome (Answer (Unit {0})) L). o .leaves) e)
+
+  -- ---- a number
+
+  counts : {L : Type 0} {before l : L} {k : ℕ} → k ≡ verdict cs → ((verdict cs ≡ 0 → ⊥) → l ≡ before) → Numbers cs k before l
+  counts {k = k} e f = record {
+    only = λ n. first-of k (sym e) n;
+    always = λ j q. e ∙ first-verdict cs (suc j) q;
+    unchanged = λ n. f (λ z. n (e ∙ z));
   }
 
--- ---- the order for each call, for any arguments
+  number-is : {A : Type 0} (a : A) (v : ℕ) → numberOf (answer v a) ≡ v
+  unfolding answer
+  number-is a zero = refl
+  number-is a (suc v) = refl
 
-module _ (n m t p k : ℕ) where
-  pub settings-order : numbers (settingsChecks n m t p) ≡ 1 ∷ 2 ∷ 3 ∷ 4 ∷ []
-  settings-order = refl
+  -- a verdict's own
+  pub by-verdict : {k : ℕ} → k ≡ verdict cs → Counted cs k
+  by-verdict e = counts e (λ n. refl)
 
-  pub path-order : (q1 q2 q3 : ℕ) → numbers (paths.pathChecks k q1 q2 q3) ≡ 8 ∷ 8 ∷ []
-  path-order q1 q2 q3 = refl
+  -- a call's number, and what it leaves
+  pub by-number : {L : Type 0} (made : L) {before l : L} {k : ℕ} → outcome k l ≡ numbered (outcomeBy (verdict cs) before made) → Numbers cs k before l
+  unfolding outcomeBy
+  by-number {L} made {before} e =
+      counts (ap (λ (o : Outcome ℕ L). o .yields) e ∙ number-is tt (verdict cs))
+      (λ n. ap (λ (o : Outcome ℕ L). o .leaves) e ∙ refused-leaves (verdict cs) before made n)
 
-  pub above-order : numbers (paths.aboveChecks k) ≡ 8 ∷ []
-  above-order = refl
+  -- an answer's number, and its place
+  pub by-place : {A B : Type 0} (a : A) (form : A → B) (before : B) {l : B} {k : ℕ} → outcome k l ≡ placedAs form (answer (verdict cs) a) before → Numbers cs k before l
+  by-place {A} {B} a form before e =
+      counts (ap (λ (o : Outcome ℕ B). o .yields) e ∙ number (verdict cs)) (λ n. ap (λ (o : Outcome ℕ B). o .leaves) e ∙ kept (verdict cs) n)
+    where
+      number : (v : ℕ) → placedAs form (answer v a) before .yields ≡ v
+      number zero = unfold answer in refl
+      number (suc v) = unfold answer in refl
 
-  module _ (words : List ℤ) (b : Book) where
-    pub vote-order : numbers (vote.slotChecks n m t p words k) ≡ 1 ∷ 2 ∷ 3 ∷ 4 ∷ 5 ∷ 8 ∷ []
-    vote-order = refl
-
-    pub answer-order : numbers (vote.wordsChecks n m t p words) ≡ 1 ∷ 2 ∷ 3 ∷ 4 ∷ 5 ∷ []
-    answer-order = refl
-
-    pub enter-order : numbers (book.slotChecks n m t p b k) ≡ 1 ∷ 2 ∷ 3 ∷ 4 ∷ 5 ∷ 8 ∷ []
-    enter-order = refl
-
-    pub open-refill-order : numbers (book.bookChecks n m t p b) ≡ 1 ∷ 2 ∷ 3 ∷ 4 ∷ 5 ∷ []
-    open-refill-order = refl
-
-    pub held-order : numbers (book.heldChecks b) ≡ 5 ∷ []
-    held-order = refl
-
-    module _ (current : ℕ) (bytes : List ℕ) (f : Frame) where
-      pub read-order : numbers (frames.readChecks bytes) ≡ 9 ∷ 10 ∷ 11 ∷ 14 ∷ []
-      read-order = refl
-
-      pub write-order : numbers (frames.writeChecks f bytes) ≡ 5 ∷ 14 ∷ []
-      write-order = refl
-
-      pub frame-order : numbers (frames-entry.enterChecks n m t p b current bytes) ≡ 1 ∷ 2 ∷ 3 ∷ 4 ∷ 5 ∷ 9 ∷ 10 ∷ 11 ∷ 14 ∷ 12 ∷ 13 ∷ 15 ∷ 8 ∷ []
-      frame-order = refl
-
-    module _ (x : ℤ) (statuses : List ℕ) (list : List ℤ) where
-      pub bench-word-order : numbers (bench.wordChecks n m t x statuses words p k) ≡ 1 ∷ 2 ∷ 3 ∷ 4 ∷ 5 ∷ 7 ∷ 6 ∷ 8 ∷ []
-      bench-word-order = refl
-
-      pub bench-answer-order : numbers (bench.answerChecks n m t x statuses words p) ≡ 1 ∷ 2 ∷ 3 ∷ 4 ∷ 5 ∷ 7 ∷ 6 ∷ []
-      bench-answer-order = refl
-
-      pub bench-answers-order : numbers (bench.answersChecks n m t x statuses words list) ≡ 1 ∷ 2 ∷ 3 ∷ 5 ∷ 7 ∷ 6 ∷ []
-      bench-answers-order = refl
-
-      pub bench-fill-order : numbers (bench.fillChecks n m t x statuses words p b) ≡ 1 ∷ 2 ∷ 3 ∷ 4 ∷ 5 ∷ 7 ∷ 6 ∷ []
-      bench-fill-order = refl
-
-      pub bench-bound-order : numbers (bench.boundChecks n m statuses) ≡ 1 ∷ 2 ∷ 5 ∷ 7 ∷ []
-      bench-bound-order = refl
-
-    pub listing-order : (file : List ℕ) → numbers (trials.fileChecks file) ≡ 9 ∷ 10 ∷ 11 ∷ 16 ∷ 9 ∷ 1 ∷ 2 ∷ 3 ∷ 7 ∷ 6 ∷ 16 ∷ []
-    listing-order file = refl
+      kept : (v : ℕ) → (v ≡ 0 → ⊥) → placedAs form (answer v a) before .leaves ≡ before
+      kept zero n = absurd (n refl)
+      kept (suc v) n = unfold answer in refl

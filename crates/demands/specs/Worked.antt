@@ -1,15 +1,18 @@
 -- Document 01, 'Worked by hand': the cases marked *, as one table of what a definition gives beside what it should be.
 use Prim.Native.Nat.{ℕ}
-use mathlib.Core.Bool.{Bool, true, cond, _&&_}
+use mathlib.Core.Bool.{Bool, true, false, cond, _&&_}
 use mathlib.Core.List.{List, [], _∷_, map, _++_}
-use lib.Dec.{eqb, ltb}
+use lib.Dec.{eqb}
 use lib.IntN.{ℤ, pos, negℤ}
 use Rattle.words.specs.Word.{E, missing, readAt}
 use Rattle.words.specs.Majority.{same}
 use Rattle.words.specs.Rule.{omh, majorityBy}
-use Rattle.paths.specs.Slots.{slotOf, above}
+use Rattle.text.specs.Decimal.{decimalOf}
+use Rattle.paths.specs.Slots.{slotOf, above, level}
+use Rattle.paths.specs.Asked.{slotAsked, aboveAsked}
 use Rattle.frames.specs.Ages.{ageOf, classOf, classNumber}
-use Rattle.bench.specs.Exchange.{Status, good, arbitrary, manifest, Exchange, answerOf}
+use Rattle.omh.specs.Numbers.{numberOf}
+use Rattle.exchange.specs.Exchange.{Status, good, arbitrary, manifest, Exchange, answerOf}
 
 pub record Case : Type 0 where
   pub given : ℤ
@@ -26,10 +29,17 @@ abbrev pub oneRow : ℕ → ℤ → ℤ → ℤ → ℕ → ℕ → ℤ
 oneRow slot a b c k p =
     cond (eqb k slot) (cond (eqb p 1) a (cond (eqb p 2) b (cond (eqb p 3) c E))) E
 
+-- two texts are the same, byte by byte
+unfoldable pub sameText : List ℕ → List ℕ → Bool
+sameText [] [] = true
+sameText [] (b ∷ bs) = false
+sameText (a ∷ rest) [] = false
+sameText (a ∷ rest) (b ∷ bs) = eqb a b && sameText rest bs
+
 -- n cards, one round, sender 0
 abbrev pub oneRound : ℕ → (ℕ → Status) → (ℕ → ℕ → ℤ) → Exchange
 oneRound n status tabled =
-    record { fitted = λ q. ltb q n; rounds = 1; sender = 0; value = pos 0; status = status; tabled = tabled }
+    record { rack = record { n = n; m = 1 }; sender = 0; value = pos 0; status = status; tabled = tabled }
 
 -- n 5: sender 0 manifest, card 4 arbitrary telling 1, 2, 3 the words 11, 12, 13
 abbrev pub fiveStatuses : ℕ → Status
@@ -73,6 +83,39 @@ worked =
     ∷ threeAnswer fiveCards E
     ++ threeAnswer (fourCards (pos 10) (pos 20) (pos 30)) E
     ++ threeAnswer (fourCards (pos 10) (pos 10) (pos 30)) (pos 10)
+
+-- further cases: slots of paths and slots above with their refusals, levels, and texts of words that no listing prints
+abbrev text : ℤ → List ℕ → Case
+text w digits = number (cond (sameText (decimalOf w) digits) 1 0) 1
+
+unfoldable pub shown : List Case
+shown =
+    number (numberOf (slotAsked 4 0 0 0)) 8
+    ∷ number (numberOf (slotAsked 1 10 0 0)) 8
+    ∷ number (numberOf (slotAsked 2 0 10 0)) 8
+    ∷ number (numberOf (slotAsked 3 0 0 10)) 8
+    ∷ number (numberOf (slotAsked 2 7 2 10)) 0
+    ∷ number (slotOf []) 0
+    ∷ number (slotOf (9 ∷ [])) 10
+    ∷ number (slotOf (9 ∷ 9 ∷ [])) 110
+    ∷ number (slotOf (0 ∷ 0 ∷ 0 ∷ [])) 111
+    ∷ number (slotOf (9 ∷ 9 ∷ 9 ∷ [])) 1110
+    ∷ number (numberOf (aboveAsked 0)) 8
+    ∷ number (numberOf (aboveAsked 1111)) 8
+    ∷ number (above 11) 1
+    ∷ number (above 110) 10
+    ∷ number (above 111) 11
+    ∷ number (above 1110) 110
+    ∷ map (λ (k : ℕ). number (level k) 0) (0 ∷ [])
+    ++ map (λ (k : ℕ). number (level k) 1) (1 ∷ 10 ∷ [])
+    ++ map (λ (k : ℕ). number (level k) 2) (11 ∷ 110 ∷ [])
+    ++ map (λ (k : ℕ). number (level k) 3) (111 ∷ 1110 ∷ [])
+    ++ map (λ (k : ℕ). number (level k) 4) (1111 ∷ [])
+    ++ text (negℤ (pos 2147483648)) (45 ∷ 50 ∷ 49 ∷ 52 ∷ 55 ∷ 52 ∷ 56 ∷ 51 ∷ 54 ∷ 52 ∷ 56 ∷ [])
+    ∷ text (negℤ (pos 1000000000)) (45 ∷ 49 ∷ 48 ∷ 48 ∷ 48 ∷ 48 ∷ 48 ∷ 48 ∷ 48 ∷ 48 ∷ 48 ∷ [])
+    ∷ text (missing 1) (49 ∷ 48 ∷ 48 ∷ 48 ∷ 48 ∷ 48 ∷ 48 ∷ 48 ∷ 48 ∷ 49 ∷ [])
+    ∷ text (pos 2147483647) (50 ∷ 49 ∷ 52 ∷ 55 ∷ 52 ∷ 56 ∷ 51 ∷ 54 ∷ 52 ∷ 55 ∷ [])
+    ∷ []
 
 -- every row is right
 unfoldable pub allRight : List Case → Bool

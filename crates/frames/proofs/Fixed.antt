@@ -1,57 +1,38 @@
--- Each public function's contract fixes its answer, and each lent buffer or list afterwards: two outcomes that it allows are equal.
+-- Each public function's contract fixes its answer, and the lent buffer afterwards: two outcomes that it allows are equal.
 use Prim.Native.Nat.{ℕ}
-use mathlib.Core.Path.{sym, _∙_}
-use mathlib.Core.Bool.{Bool}
-use lib.IntN.{ℤ}
+use mathlib.Core.Path.{_≡_, sym, ap, _∙_}
+use mathlib.Core.List.{List}
+use native.Mathlib.Omega.{arith}
 use denote.Ref.{now}
-use Rattle.words.specs.Fixes.{Fixes}
-use Rattle.book.specs.Asked.{Outcome, outcomeOf}
-use Rattle.book.specs.declared.Done.{Done}
-use Rattle.frames.specs.Asked.{WriteOutcome, writeOutcome}
+use Rattle.ground.specs.Fixes.{Fixes}
+use Rattle.ground.specs.Answer.{Outcome, outcome}
+use Rattle.ground.specs.declared.Done.{Done}
+use Rattle.ground.proofs.Answers.{outcome-apart}
+use Rattle.frames.specs.Asked.{ofParsed}
 use Rattle.frames.specs.declared.Age.{Age}
+use Rattle.frames.specs.declared.Frame.{Frame}
 use Rattle.frames.specs.declared.Parsed.{Parsed}
-use Rattle.frames.proofs.bytes.starts_with.Kinds as starts-with
-use Rattle.frames.proofs.bytes.starts_with.Reads as starts-with-says
-use Rattle.frames.proofs.bytes.byte_at.Kinds as byte-at
-use Rattle.frames.proofs.bytes.byte_at.Reads as byte-at-says
-use Rattle.frames.proofs.bytes.get16.Kinds as get16
-use Rattle.frames.proofs.bytes.get16.Reads as get16-says
-use Rattle.frames.proofs.bytes.get32.Kinds as get32
-use Rattle.frames.proofs.bytes.get32.Reads as get32-says
-use Rattle.frames.proofs.bytes.from_bits.Kinds as from-bits
-use Rattle.frames.proofs.bytes.from_bits.Reads as from-bits-says
-use Rattle.frames.proofs.bytes.to_bits.Kinds as to-bits
-use Rattle.frames.proofs.bytes.to_bits.Reads as to-bits-says
+use Rattle.frames.specs.declared.Parsed.the-variants as parsed
 use Rattle.frames.proofs.next_exchange.Kinds as next-exchange
 use Rattle.frames.proofs.next_exchange.Reads as next-exchange-says
 use Rattle.frames.proofs.age_of.Kinds as age-of
 use Rattle.frames.proofs.age_of.Reads as age-of-says
 use Rattle.frames.proofs.age_class.Kinds as age-class
 use Rattle.frames.proofs.age_class.Reads as age-class-says
+use Rattle.frames.proofs.frame_of.Kinds as frame-of
+use Rattle.frames.proofs.frame_of.Reads as frame-of-says
+use Rattle.frames.proofs.refused.Kinds as refused
+use Rattle.frames.proofs.refused.Reads as refused-says
 use Rattle.frames.proofs.read.Kinds as read
 use Rattle.frames.proofs.read.Reads as read-says
 use Rattle.frames.proofs.write.Kinds as write
 use Rattle.frames.proofs.write.Reads as write-says
-use Rattle.frames.proofs.enter.Kinds as enter
-use Rattle.frames.proofs.enter.Reads as enter-says
 
-pub starts-with-fixed : Fixes 2 starts-with.ps starts-with.r starts-with-says.Post Bool (λ κs x s. x)
-starts-with-fixed κs a x y s t p q = p ∙ sym q
-
-pub byte-at-fixed : Fixes 1 byte-at.ps byte-at.r byte-at-says.Post ℕ (λ κs x s. x)
-byte-at-fixed κs a x y s t p q = p ∙ sym q
-
-pub get16-fixed : Fixes 1 get16.ps get16.r get16-says.Post ℕ (λ κs x s. x)
-get16-fixed κs a x y s t p q = p ∙ sym q
-
-pub get32-fixed : Fixes 1 get32.ps get32.r get32-says.Post ℕ (λ κs x s. x)
-get32-fixed κs a x y s t p q = p ∙ sym q
-
-pub from-bits-fixed : Fixes 0 from-bits.ps from-bits.r from-bits-says.Post ℤ (λ κs x s. x)
-from-bits-fixed κs a x y s t p q = p ∙ sym q
-
-pub to-bits-fixed : Fixes 0 to-bits.ps to-bits.r to-bits-says.Post ℕ (λ κs x s. x)
-to-bits-fixed κs a x y s t p q = p ∙ sym q
+parsed-apart : (x y : Parsed) → ofParsed x ≡ ofParsed y → x ≡ y
+parsed-apart (parsed.Frame f) (parsed.Frame g) e = ap parsed.Frame (cc e)
+parsed-apart (parsed.Frame f) (parsed.Refused k) e = let z : _≡_ {A = ℕ} 0 1 = cc e in absurd (omega arith)
+parsed-apart (parsed.Refused k) (parsed.Frame f) e = let z : _≡_ {A = ℕ} 0 1 = cc e in absurd (omega arith)
+parsed-apart (parsed.Refused k) (parsed.Refused j) e = ap parsed.Refused (cc e)
 
 pub next-exchange-fixed : Fixes 0 next-exchange.ps next-exchange.r next-exchange-says.Post ℕ (λ κs x s. x)
 next-exchange-fixed κs a x y s t p q = p ∙ sym q
@@ -62,11 +43,14 @@ age-of-fixed κs a x y s t p q = p ∙ sym q
 pub age-class-fixed : Fixes 0 age-class.ps age-class.r age-class-says.Post Age (λ κs x s. x)
 age-class-fixed κs a x y s t p q = p ∙ sym q
 
+pub frame-of-fixed : Fixes 1 frame-of.ps frame-of.r frame-of-says.Post Frame (λ κs x s. x)
+frame-of-fixed κs a x y s t p q = p ∙ sym q
+
+pub refused-fixed : Fixes 1 refused.ps refused.r refused-says.Post ℕ (λ κs x s. x)
+refused-fixed κs a x y s t p q = p ∙ sym q
+
 pub read-fixed : Fixes 1 read.ps read.r read-says.Post Parsed (λ κs x s. x)
-read-fixed κs a x y s t p q = p ∙ sym q
+read-fixed κs a x y s t p q = parsed-apart x y (p ∙ sym q)
 
-pub write-fixed : Fixes 1 write.ps write.r write-says.Post WriteOutcome (λ κs x s. writeOutcome x (now (s .1 .0)))
-write-fixed κs a x y s t p q = p ∙ sym q
-
-pub enter-fixed : Fixes 3 enter.ps enter.r enter-says.Post (Outcome Done) (λ κs x s. outcomeOf x (now (s .1 .1 .1 .1 .0)) (now (s .1 .1 .1 .1 .1 .0)))
-enter-fixed κs a x y s t p q = p ∙ sym q
+pub write-fixed : Fixes 1 write.ps write.r write-says.Post (Outcome Done (List ℕ)) (λ κs x s. outcome x (now (s .1 .0)))
+write-fixed κs a x y s t p q = outcome-apart x y (p ∙ sym q)

@@ -2,25 +2,24 @@
 use Prim.Native.Nat.{ℕ, zero, suc, _^_, _<_}
 use mathlib.Core.Path.{_≡_, refl, sym, ap, subst, _∙_}
 use mathlib.Core.Logic.{_↔_}
-use mathlib.Core.Bool.{Bool, true, false, true≢false}
+use mathlib.Core.Bool.{Bool, true, false, cond, not, true≢false}
 use mathlib.Core.List.{List, [], _∷_}
 use native.Mathlib.Omega.{arith}
-use borrow.Author.Tests.{eqb-true, eqb-false}
-use lib.Dec.{eqb}
+use borrow.Author.Tests.{eq-eqb, not-false}
 use lib.ListN.{length}
-use Rattle.paths.specs.Checks.{verdict, value}
-use Rattle.paths.specs.Slots.{table}
-use Rattle.paths.proofs.Verdicts.{answered}
-use Rattle.paths.proofs.Tables.{is-table}
-use Rattle.frames.specs.Bytes.{byte, AllBytes, starts, be16, be32, bytes16, bytes32, bits32, signed32}
+use Rattle.ground.specs.Checks.{verdict, NoneOf}
+use Rattle.ground.specs.Answer.{value, refused, answer, after, outcomeBy}
+use Rattle.ground.specs.Lists.{table}
+use Rattle.ground.specs.Bytes.{byte, AllBytes, starts, be16, be32, bytes16, bytes32, bits32, signed32}
+use Rattle.ground.proofs.Verdicts.{none-verdict, no-verdict}
+use Rattle.ground.proofs.Answers.{answer-given, value-verdict}
+use Rattle.ground.proofs.Lists.{is-table}
+use Rattle.ground.proofs.Numbers.{join16, join32, bytes-be16, bytes-be32, be16-low, be32-low, mark-bytes}
+use Rattle.ground.proofs.Twos.{bits-low, signed-fits, signed-bits, bits-signed}
 use Rattle.frames.specs.Frame.{mark, version, InRange, frameOf, bytesOf, wellFormed}
-use Rattle.frames.specs.Asked.{readChecks, readAsked, WriteOutcome, writeOutcome, writeAsked}
+use Rattle.frames.specs.Asked.{readChecks, writeChecks, readAsked, writeAsked}
 use Rattle.frames.specs.declared.Frame.{Frame}
-use Rattle.frames.specs.declared.Written.the-variants.{Done, Refused}
-use Rattle.paths.proofs.Verdicts.{accepted}
-use Rattle.frames.proofs.Numbers.{join16, join32, bytes-be16, bytes-be32, be16-low, be32-low, mark-bytes}
-use Rattle.frames.proofs.Twos.{bits-low, signed-fits, signed-bits, bits-signed}
-use Rattle.frames.proofs.Asking.{unrefused, Passed, passed-all, write-long, write-ill, write-done}
+use Rattle.frames.proofs.Asking.{Passed, passed-all}
 
 pub length-bytes : (f : Frame) → length (bytesOf f) ≡ 17
 unfolding bytesOf bytes16 bytes32
@@ -42,31 +41,18 @@ module _ (f : Frame) (r : InRange f) where
     word = (ap signed32 (join32 (bits32 (f .word))) ∙ signed-bits (f .word) (r .word)) i;
   }
 
-  marked : starts (bytesOf f) mark ≡ true
-  unfolding starts bytesOf bytes16 bytes32
-  marked = refl
-
-  versioned : be16 (bytesOf f) 3 ≡ 1
-  unfolding be16 bytesOf bytes16 bytes32
-  versioned = refl
-
   pub reads-back : wellFormed f ≡ true → readAsked (bytesOf f) ≡ value f
-  unfolding readAsked
+  unfolding readAsked bytesOf bytes16 bytes32 starts be16
   reads-back w =
-      answered _ _ (sym (unrefused (bytesOf f) (length-bytes f) true (sym marked) refl 1 (sym versioned) refl true (sym (ap wellFormed frame-bytes ∙ w)) refl))
-      ∙ ap value frame-bytes
+      let none : NoneOf (readChecks (bytesOf f)) = (refl, (refl, (refl, (ap not (ap wellFormed frame-bytes ∙ w), tt)))) in
+      sym (answer-given (sym (none-verdict (readChecks (bytesOf f)) none)) refl (sym frame-bytes))
 
   -- what `write` leaves where it is done reads back
-  pub written-reads : (buffer : List ℕ) → writeAsked f buffer .yields ≡ Done → readAsked (writeAsked f buffer .leaves) ≡ value f
-  written-reads buffer e = go (eqb (length buffer) 17) refl (wellFormed f) refl
-    where
-      not-done : {k : ℕ} → writeOutcome (Refused k) buffer ≡ writeAsked f buffer → ⊥
-      not-done q = let z : _≡_ {A = ℕ} 0 1 = cc (ap (λ (o : WriteOutcome). o .yields) q ∙ e) in omega arith
-
-      go : (a : Bool) → eqb (length buffer) 17 ≡ a → (w : Bool) → wellFormed f ≡ w → readAsked (writeAsked f buffer .leaves) ≡ value f
-      go true a true w = rw (← (write-done f buffer (eqb-true _ _ a) w)) (reads-back w)
-      go true a false w = absurd (not-done (write-ill f buffer (eqb-true _ _ a) w))
-      go false a w q = absurd (not-done (write-long f buffer (eqb-false _ _ a)))
+  pub written-reads : (buffer : List ℕ) → writeAsked f buffer .yields ≡ value tt → readAsked (writeAsked f buffer .leaves) ≡ value f
+  unfolding writeAsked outcomeBy after
+  written-reads buffer e =
+      let v = value-verdict tt (verdict (writeChecks f buffer)) e .0 in
+      rw v (reads-back (not-false _ (no-verdict (writeChecks f buffer) tt v .1 .0)))
 
 -- ---- from a frame to its record and back
 
@@ -87,7 +73,7 @@ module _ (l : List ℕ) (b : AllBytes l) where
   pub written-so : (f : Frame) → readAsked l ≡ value f → l ≡ bytesOf f
   unfolding readAsked
   written-so f e =
-      let a = accepted (verdict (readChecks l)) (frameOf l) f e in
+      let a = value-verdict (frameOf l) (verdict (readChecks l)) e in
       let p = passed-all l (a .0) in
       is-table 17 (byte l) 0 l (p .size) (λ i h. refl) ∙ by-places p ∙ ap bytesOf (a .1)
 
@@ -97,11 +83,11 @@ one-frame l m b c f p q = written-so l b f p ∙ sym (written-so m c f q)
 
 -- ---- a record in range has bytes, and bytes a record in range
 
-none : AllBytes []
-none = record { at = λ k. omega arith }
+no-bytes : AllBytes []
+no-bytes = record { at = λ k. omega arith }
 
-next : {x : ℕ} {l : List ℕ} → x < 256 → AllBytes l → AllBytes (x ∷ l)
-next {x} {l} h b = record { at = go }
+more-bytes : {x : ℕ} {l : List ℕ} → x < 256 → AllBytes l → AllBytes (x ∷ l)
+more-bytes {x} {l} h b = record { at = go }
   where
     go : (k : ℕ) → byte (x ∷ l) k < 256
     go zero = h
@@ -111,10 +97,10 @@ pub all-bytes : (f : Frame) → InRange f → AllBytes (bytesOf f)
 unfolding bytesOf bytes16 bytes32
 all-bytes f r =
     let w : bits32 (f .word) < 2 ^ 32 = bits-low (f .word) (r .word) in
-    next (omega arith) (next (omega arith) (next (omega arith) (next (omega arith) (next (omega arith) (
-    next (omega arith) (next (omega arith) (next (omega arith) (next (omega arith) (next (omega arith) (
-    next (omega arith) (next (omega arith) (next (omega arith) (next (omega arith) (next (omega arith) (
-    next (omega arith) (next (omega arith) (none)))))))))))))))))
+    more-bytes (omega arith) (more-bytes (omega arith) (more-bytes (omega arith) (more-bytes (omega arith) (more-bytes (omega arith) (
+    more-bytes (omega arith) (more-bytes (omega arith) (more-bytes (omega arith) (more-bytes (omega arith) (more-bytes (omega arith) (
+    more-bytes (omega arith) (more-bytes (omega arith) (more-bytes (omega arith) (more-bytes (omega arith) (more-bytes (omega arith) (
+    more-bytes (omega arith) (more-bytes (omega arith) no-bytes))))))))))))))))
 
 pub in-range : (l : List ℕ) → AllBytes l → InRange (frameOf l)
 unfolding frameOf
@@ -133,21 +119,18 @@ in-range l b = record {
 pub read-good : (l : List ℕ) → AllBytes l → (f : Frame) → readAsked l ≡ value f → InRange f × (wellFormed f ≡ true)
 unfolding readAsked
 read-good l b f e =
-    let a = accepted (verdict (readChecks l)) (frameOf l) f e in
+    let a = value-verdict (frameOf l) (verdict (readChecks l)) e in
     (subst InRange (a .1) (in-range l b), ap wellFormed (sym (a .1)) ∙ passed-all l (a .0) .formed)
 
 -- ---- what the writer refuses
 
-pub refused-unread : (f : Frame) (buffer : List ℕ) → InRange f → length buffer ≡ 17 → (writeAsked f buffer .yields ≡ Refused 14) ↔ ((l : List ℕ) → AllBytes l → readAsked l ≡ value f → ⊥)
-unfolding readAsked
-refused-unread f buffer r n = go (wellFormed f) refl
+pub refused-unread : (f : Frame) (buffer : List ℕ) → InRange f → length buffer ≡ 17 → (writeAsked f buffer .yields ≡ refused 14) ↔ ((l : List ℕ) → AllBytes l → readAsked l ≡ value f → ⊥)
+unfolding writeAsked outcomeBy verdict answer
+refused-unread f buffer r n = rw (eq-eqb (length buffer) 17 n) (go (wellFormed f) refl)
   where
-    go : (w : Bool) → wellFormed f ≡ w → (writeAsked f buffer .yields ≡ Refused 14) ↔ ((l : List ℕ) → AllBytes l → readAsked l ≡ value f → ⊥)
+    go : (w : Bool) → wellFormed f ≡ w → (answer (cond (not w) 14 0) (tt {0}) ≡ refused 14) ↔ ((l : List ℕ) → AllBytes l → readAsked l ≡ value f → ⊥)
     go true w = (
-      λ e. let z : _≡_ {A = ℕ} 0 1 = cc (e, write-done f buffer n w) in absurd (omega arith),
+      λ e. let z : _≡_ {A = ℕ} 0 1 = cc e in absurd (omega arith),
       λ h. absurd (h (bytesOf f) (all-bytes f r) (reads-back f r w)),
     )
-    go false w = (
-      λ e l b q. let a = accepted _ (frameOf l) f q in true≢false (sym (passed-all l (a .0) .formed) ∙ ap wellFormed (a .1) ∙ w),
-      λ h. ap (λ (o : WriteOutcome). o .yields) (sym (write-ill f buffer n w)),
-    )
+    go false w = (λ e l b q. true≢false (sym (read-good l b f q .1) ∙ w), λ h. refl)

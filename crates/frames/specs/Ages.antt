@@ -2,7 +2,7 @@
 use Prim.Native.Nat.{ℕ, _+_, _-_, _%_}
 use mathlib.Core.Bool.{cond}
 use lib.Dec.{eqb, leb}
-use Rattle.paths.specs.Refusal as refusal
+use Rattle.ground.specs.Refusal as refusal
 use Rattle.frames.specs.declared.Age.{Age}
 use Rattle.frames.specs.declared.Age.the-variants.{Current, Old, Ahead}
 

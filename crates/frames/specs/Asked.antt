@@ -4,23 +4,18 @@ use mathlib.Core.Bool.{not}
 use mathlib.Core.List.{List, [], _∷_}
 use lib.Dec.{eqb}
 use lib.ListN.{length}
-use Rattle.paths.specs.Refusal as refusal
-use Rattle.paths.specs.Checks.{Check, check, verdict, Answer, value, refused, answer, after}
-use Rattle.frames.specs.Bytes.{starts, be16}
+use Rattle.ground.specs.Refusal as refusal
+use Rattle.ground.specs.Checks.{Check, check, verdict}
+use Rattle.ground.specs.Answer.{Answer, value, refused, answer, Outcome, outcomeBy}
+use Rattle.ground.specs.Bytes.{starts, be16}
 use Rattle.frames.specs.Frame.{mark, version, frameOf, bytesOf, wellFormed}
 use Rattle.frames.specs.declared.Frame.{Frame}
 use Rattle.frames.specs.declared.Parsed.{Parsed}
 use Rattle.frames.specs.declared.Parsed.the-variants as parsed
-use Rattle.frames.specs.declared.Written.{Written}
-use Rattle.frames.specs.declared.Written.the-variants as written
 
-abbrev pub parsedOf : Answer Frame → Parsed
-parsedOf (value f) = parsed.Frame f
-parsedOf (refused k) = parsed.Refused k
-
-abbrev pub writtenOf : Answer (Unit {0}) → Written
-writtenOf (value u) = written.Done
-writtenOf (refused k) = written.Refused k
+abbrev pub ofParsed : Parsed → Answer Frame
+ofParsed (parsed.Frame f) = value f
+ofParsed (parsed.Refused k) = refused k
 
 -- not 17 bytes, wrong mark, version not 1, not well formed
 abbrev pub readChecks : List ℕ → List Check
@@ -41,14 +36,5 @@ writeChecks f buffer =
 unfoldable pub readAsked : List ℕ → Answer Frame
 readAsked bytes = answer (verdict (readChecks bytes)) (frameOf bytes)
 
--- what writing yields, and the buffer that it leaves
-pub record WriteOutcome : Type 0 where
-  pub yields : Written
-  pub leaves : List ℕ
-
-abbrev pub writeOutcome : Written → List ℕ → WriteOutcome
-writeOutcome w l = record { yields = w; leaves = l }
-
-unfoldable pub writeAsked : Frame → List ℕ → WriteOutcome
-writeAsked f buffer =
-    let k = verdict (writeChecks f buffer) in writeOutcome (writtenOf (answer k tt)) (after k buffer (bytesOf f))
+unfoldable pub writeAsked : Frame → List ℕ → Outcome (Answer (Unit {0})) (List ℕ)
+writeAsked f buffer = outcomeBy (verdict (writeChecks f buffer)) buffer (bytesOf f)

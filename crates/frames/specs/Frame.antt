@@ -5,7 +5,7 @@ use mathlib.Core.List.{List, [], _∷_, _++_}
 use lib.Dec.{eqb, leb}
 use mir.Syntax.{w32}
 use mir.Val.{SFits}
-use Rattle.frames.specs.Bytes.{byte, be16, be32, bytes16, bytes32, bits32, signed32}
+use Rattle.ground.specs.Bytes.{byte, be16, be32, bytes16, bytes32, bits32, signed32}
 use Rattle.frames.specs.declared.Frame.{Frame}
 
 -- the letters OMH

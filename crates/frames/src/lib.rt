@@ -1,22 +1,25 @@
 // Document 01, 'Frames': the exchange number and a frame's age, reading and writing a frame.
-pub mod bytes;
-
-use book::Done;
-use paths::Place;
-use paths::refusal;
+use ground::Done;
+use ground::bytes;
+use ground::refusal;
 ghost use mathlib.Core.Path.{_≡_};
-ghost use mathlib.Core.Bool.{true};
 ghost use lib.ListN.{length};
-ghost use Rattle.paths.specs.Checks.{verdict};
+ghost use Rattle.ground.specs.Checks.{verdict};
+ghost use Rattle.ground.specs.Answer.{outcome, ofDone};
 ghost use Rattle.frames.specs.Ages.{nextNumber, ageOf, classOf};
 ghost use Rattle.frames.specs.Frame.{frameOf, bytesOf, relayFormed, wellFormed};
-ghost use Rattle.book.specs.Asked.{bookOf, outcomeOf};
-ghost use Rattle.frames.specs.Entry.{frameSlot, timelyChecks, frameChecks, frameAsked};
-ghost use Rattle.frames.specs.Asked.{parsedOf, readChecks, readAsked, writeOutcome, writeAsked};
+ghost use Rattle.frames.specs.Asked.{ofParsed, readChecks, readAsked, writeAsked};
 
 const MARK: [u8; 3] = *b"OMH";
 
 const VERSION: u16 = 1;
+
+const LAST_CARD: u8 = 9;
+
+const LAST_LEVEL: u8 = 3;
+
+// The byte of a relay that the level does not use.
+const UNUSED: u8 = 255;
 
 // A frame's fields as they lie in the frame.
 pub struct Frame {
@@ -46,11 +49,6 @@ pub enum Parsed {
     Refused(u8),
 }
 
-pub enum Written {
-    Done,
-    Refused(u8),
-}
-
 pub fn next_exchange(x: u16) -> u16
     ensures { λ r. ⌜ r ≡ nextNumber x ⌝ }
 {
@@ -77,23 +75,27 @@ pub fn age_class(current: u16, frame: u16) -> Age
 fn relay_formed(level: u8, place: u8, q: u8) -> bool
     ensures { λ r. ⌜ r ≡ relayFormed level place q ⌝ }
 {
-    if place <= level { q <= 9 } else { q == 255 }
+    if place <= level {
+        q <= LAST_CARD
+    } else {
+        q == UNUSED
+    }
 }
 
 // All is looked at: no branch.
 fn well_formed(f: Frame) -> bool
     ensures { λ r. ⌜ r ≡ wellFormed f ⌝ }
 {
-    (f.sender <= 9)
-        & (f.receiver <= 9)
-        & (f.level <= 3)
+    (f.sender <= LAST_CARD)
+        & (f.receiver <= LAST_CARD)
+        & (f.level <= LAST_LEVEL)
         & relay_formed(f.level, 1, f.q1)
         & relay_formed(f.level, 2, f.q2)
         & relay_formed(f.level, 3, f.q3)
 }
 
 // The fields of bytes, whether or not they are a frame.
-fn frame_of(s: &[u8]) -> Frame
+pub fn frame_of(s: &[u8]) -> Frame
     ensures { λ r. ⌜ r ≡ frameOf (now (s .entry)) ⌝ }
 {
     Frame {
@@ -109,7 +111,7 @@ fn frame_of(s: &[u8]) -> Frame
 }
 
 // The refusal number of bytes that are read as a frame; 0 for none.
-fn refused(s: &[u8]) -> u8
+pub fn refused(s: &[u8]) -> u8
     ensures { λ r. ⌜ r ≡ verdict (readChecks (now (s .entry))) ⌝ }
 {
     if s.len() != Frame::SIZE {
@@ -129,7 +131,7 @@ fn refused(s: &[u8]) -> u8
 
 // The record that a frame carries.
 pub fn read(bytes: &[u8]) -> Parsed
-    ensures { λ r. ⌜ r ≡ parsedOf (readAsked (now (bytes .entry))) ⌝ }
+    ensures { λ r. ⌜ ofParsed r ≡ readAsked (now (bytes .entry)) ⌝ }
 {
     let no = refused(bytes);
     if no != 0 {
@@ -177,84 +179,16 @@ fn put(frame: Frame, buffer: &mut [u8])
     }
 }
 
-pub fn write(frame: Frame, buffer: &mut [u8]) -> Written
-    ensures { λ r. ⌜ writeOutcome r (now (buffer .exit)) ≡ writeAsked frame (now (buffer .entry)) ⌝ }
+pub fn write(frame: Frame, buffer: &mut [u8]) -> Done
+    ensures { λ r. ⌜ outcome (ofDone r) (now (buffer .exit)) ≡ writeAsked frame (now (buffer .entry)) ⌝ }
 {
-    if buffer.len() != Frame::SIZE {
-        return Written::Refused(refusal::LONG);
-    }
-    if !well_formed(frame) {
-        return Written::Refused(refusal::FORM);
-    }
-    put(frame, buffer);
-    Written::Done
-}
-
-// The slot of a well formed frame's path, which is never refused.
-fn slot_of(f: Frame) -> usize
-    requires { ⌜ wellFormed f ≡ true ⌝ }
-    ensures { λ r. ⌜ r ≡ frameSlot f ⌝ }
-{
-    match paths::slot_of(
-        f.level as usize,
-        f.q1 as usize,
-        f.q2 as usize,
-        f.q3 as usize,
-    ) {
-        Place::Slot(slot) => slot,
-        Place::Refused(_) => 0,
-    }
-}
-
-// The refusal number of a frame that is old, ahead or another book's; 0 for none.
-fn untimely(t: usize, p: usize, current: u16, f: Frame) -> u8
-    ensures { λ r. ⌜ r ≡ verdict (timelyChecks t p current f) ⌝ }
-{
-    match age_class(current, f.exchange) {
-        Age::Old => refusal::OLD,
-        Age::Ahead => refusal::AHEAD,
-        Age::Current => {
-            if (f.sender as usize == t) & (f.receiver as usize == p) {
-                0
-            } else {
-                refusal::FOREIGN
-            }
-        }
-    }
-}
-
-// The refusal number of a frame by itself, whatever the lists and the slot; 0 for none.
-fn frame_refused(t: usize, p: usize, current: u16, bytes: &[u8]) -> u8
-    ensures { λ r. ⌜ r ≡ verdict (frameChecks t p current (now (bytes .entry))) ⌝ }
-{
-    let no = refused(bytes);
+    let no = refusal::first(
+        refusal::when(buffer.len() != Frame::SIZE, refusal::LONG),
+        refusal::when(!well_formed(frame), refusal::FORM),
+    );
     if no != 0 {
-        return no;
-    }
-    untimely(t, p, current, frame_of(bytes))
-}
-
-// Enters a frame in a book, where `current` is the exchange number. What refuses the book comes first; where the frame passes, the book's entering sees to it.
-pub fn enter(
-    n: usize,
-    m: usize,
-    t: usize,
-    p: usize,
-    words: &mut [i32],
-    votes: &mut [i32],
-    current: u16,
-    bytes: &[u8],
-) -> Done
-    ensures { λ r. ⌜ outcomeOf r (now (words .exit)) (now (votes .exit)) ≡ frameAsked n m t p (bookOf (now (words .entry)) (now (votes .entry))) current (now (bytes .entry)) ⌝ }
-{
-    let no = frame_refused(t, p, current, bytes);
-    if no != 0 {
-        let first = book::book_refused(n, m, t, p, words, votes);
-        if first != 0 {
-            return Done::Refused(first);
-        }
         return Done::Refused(no);
     }
-    let f = frame_of(bytes);
-    book::enter(n, m, t, p, words, votes, slot_of(f), f.word)
+    put(frame, buffer);
+    Done::Done
 }

@@ -4,9 +4,9 @@ use mathlib.Core.Path.{sym, ap, _∙_}
 use mathlib.Core.List.{List}
 use lib.IntN.{ℤ}
 use denote.Ref.{now}
-use Rattle.words.specs.Fixes.{Fixes}
-use Rattle.book.specs.Asked.{Outcome, outcomeOf}
-use Rattle.omh.specs.Numbers.{Given, given}
+use Rattle.ground.specs.Answer.{Outcome, outcome}
+use Rattle.ground.specs.Fixes.{Fixes}
+use Rattle.book.specs.Book.{Book, bookOf}
 use Rattle.omh.proofs.omh_read_at.Kinds as omh-read-at
 use Rattle.omh.proofs.omh_read_at.Reads as omh-read-at-says
 use Rattle.omh.proofs.omh_wrap.Kinds as omh-wrap
@@ -62,20 +62,20 @@ omh-unwrap-fixed κs a x y s t p q = p ∙ sym q
 pub omh-majority-fixed : Fixes 1 omh-majority.ps omh-majority.r omh-majority-says.Post ℤ (λ κs x s. x)
 omh-majority-fixed κs a x y s t p q = p ∙ sym q
 
-pub omh-vote-at-fixed : Fixes 2 omh-vote-at.ps omh-vote-at.r omh-vote-at-says.Post (Given ℤ) (λ κs x s. given x (now (s .1 .1 .1 .1 .1 .1 .0)))
+pub omh-vote-at-fixed : Fixes 2 omh-vote-at.ps omh-vote-at.r omh-vote-at-says.Post (Outcome ℕ ℤ) (λ κs x s. outcome x (now (s .1 .1 .1 .1 .1 .1 .0)))
 omh-vote-at-fixed κs a x y s t p q = p ∙ sym q
 
-pub omh-open-fixed : Fixes 2 omh-open.ps omh-open.r omh-open-says.Post (Outcome ℕ) (λ κs x s. outcomeOf x (now (s .1 .1 .1 .1 .0)) (now (s .1 .1 .1 .1 .1 .0)))
+pub omh-open-fixed : Fixes 2 omh-open.ps omh-open.r omh-open-says.Post (Outcome ℕ Book) (λ κs x s. outcome x (bookOf (now (s .1 .1 .1 .1 .0)) (now (s .1 .1 .1 .1 .1 .0))))
 omh-open-fixed κs a x y s t p q = p ∙ sym q
 
-pub omh-enter-fixed : Fixes 2 omh-enter.ps omh-enter.r omh-enter-says.Post (Outcome ℕ) (λ κs x s. outcomeOf x (now (s .1 .1 .1 .1 .0)) (now (s .1 .1 .1 .1 .1 .0)))
+pub omh-enter-fixed : Fixes 2 omh-enter.ps omh-enter.r omh-enter-says.Post (Outcome ℕ Book) (λ κs x s. outcome x (bookOf (now (s .1 .1 .1 .1 .0)) (now (s .1 .1 .1 .1 .1 .0))))
 omh-enter-fixed κs a x y s t p q = p ∙ sym q
 
 -- the words are lent to be read only
 pub omh-refill-fixed : Fixes 2 omh-refill.ps omh-refill.r omh-refill-says.Post (ℕ × List ℤ) (λ κs x s. (x, now (s .1 .1 .1 .1 .1 .0)))
-omh-refill-fixed κs a x y s t p q = ap (λ (o : Outcome ℕ). (o .yields, o .leaves .votes)) (p ∙ sym q)
+omh-refill-fixed κs a x y s t p q = ap (λ (o : Outcome ℕ Book). (o .yields, o .leaves .votes)) (p ∙ sym q)
 
-pub omh-held-answer-fixed : Fixes 3 omh-held-answer.ps omh-held-answer.r omh-held-answer-says.Post (Given ℤ) (λ κs x s. given x (now (s .1 .1 .0)))
+pub omh-held-answer-fixed : Fixes 3 omh-held-answer.ps omh-held-answer.r omh-held-answer-says.Post (Outcome ℕ ℤ) (λ κs x s. outcome x (now (s .1 .1 .0)))
 omh-held-answer-fixed κs a x y s t p q = p ∙ sym q
 
 pub omh-next-exchange-fixed : Fixes 0 omh-next-exchange.ps omh-next-exchange.r omh-next-exchange-says.Post ℕ (λ κs x s. x)
@@ -87,28 +87,28 @@ omh-age-fixed κs a x y s t p q = p ∙ sym q
 pub omh-age-class-fixed : Fixes 0 omh-age-class.ps omh-age-class.r omh-age-class-says.Post ℕ (λ κs x s. x)
 omh-age-class-fixed κs a x y s t p q = p ∙ sym q
 
-pub omh-read-frame-fixed : Fixes 2 omh-read-frame.ps omh-read-frame.r omh-read-frame-says.Post (Given (List ℤ)) (λ κs x s. given x (now (s .1 .0)))
+pub omh-read-frame-fixed : Fixes 2 omh-read-frame.ps omh-read-frame.r omh-read-frame-says.Post (Outcome ℕ (List ℤ)) (λ κs x s. outcome x (now (s .1 .0)))
 omh-read-frame-fixed κs a x y s t p q = p ∙ sym q
 
-pub omh-write-frame-fixed : Fixes 1 omh-write-frame.ps omh-write-frame.r omh-write-frame-says.Post (Given (List ℕ)) (λ κs x s. given x (now (s .1 .1 .1 .1 .1 .1 .1 .1 .0)))
+pub omh-write-frame-fixed : Fixes 1 omh-write-frame.ps omh-write-frame.r omh-write-frame-says.Post (Outcome ℕ (List ℕ)) (λ κs x s. outcome x (now (s .1 .1 .1 .1 .1 .1 .1 .1 .0)))
 omh-write-frame-fixed κs a x y s t p q = p ∙ sym q
 
-pub omh-enter-frame-fixed : Fixes 3 omh-enter-frame.ps omh-enter-frame.r omh-enter-frame-says.Post (Outcome ℕ) (λ κs x s. outcomeOf x (now (s .1 .1 .1 .1 .0)) (now (s .1 .1 .1 .1 .1 .0)))
+pub omh-enter-frame-fixed : Fixes 3 omh-enter-frame.ps omh-enter-frame.r omh-enter-frame-says.Post (Outcome ℕ Book) (λ κs x s. outcome x (bookOf (now (s .1 .1 .1 .1 .0)) (now (s .1 .1 .1 .1 .1 .0))))
 omh-enter-frame-fixed κs a x y s t p q = p ∙ sym q
 
-pub omh-word-for-fixed : Fixes 3 omh-word-for.ps omh-word-for.r omh-word-for-says.Post (Given ℤ) (λ κs x s. given x (now (s .1 .1 .1 .1 .1 .1 .1 .1 .0)))
+pub omh-word-for-fixed : Fixes 3 omh-word-for.ps omh-word-for.r omh-word-for-says.Post (Outcome ℕ ℤ) (λ κs x s. outcome x (now (s .1 .1 .1 .1 .1 .1 .1 .1 .0)))
 omh-word-for-fixed κs a x y s t p q = p ∙ sym q
 
-pub omh-answer-for-fixed : Fixes 3 omh-answer-for.ps omh-answer-for.r omh-answer-for-says.Post (Given ℤ) (λ κs x s. given x (now (s .1 .1 .1 .1 .1 .1 .1 .0)))
+pub omh-answer-for-fixed : Fixes 3 omh-answer-for.ps omh-answer-for.r omh-answer-for-says.Post (Outcome ℕ ℤ) (λ κs x s. outcome x (now (s .1 .1 .1 .1 .1 .1 .1 .0)))
 omh-answer-for-fixed κs a x y s t p q = p ∙ sym q
 
-pub omh-all-answers-fixed : Fixes 3 omh-all-answers.ps omh-all-answers.r omh-all-answers-says.Post (Given (List ℤ)) (λ κs x s. given x (now (s .1 .1 .1 .1 .1 .1 .0)))
+pub omh-all-answers-fixed : Fixes 3 omh-all-answers.ps omh-all-answers.r omh-all-answers-says.Post (Outcome ℕ (List ℤ)) (λ κs x s. outcome x (now (s .1 .1 .1 .1 .1 .1 .0)))
 omh-all-answers-fixed κs a x y s t p q = p ∙ sym q
 
-pub omh-fill-fixed : Fixes 4 omh-fill.ps omh-fill.r omh-fill-says.Post (Outcome ℕ) (λ κs x s. outcomeOf x (now (s .1 .1 .1 .1 .1 .1 .1 .0)) (now (s .1 .1 .1 .1 .1 .1 .1 .1 .0)))
+pub omh-fill-fixed : Fixes 4 omh-fill.ps omh-fill.r omh-fill-says.Post (Outcome ℕ Book) (λ κs x s. outcome x (bookOf (now (s .1 .1 .1 .1 .1 .1 .1 .0)) (now (s .1 .1 .1 .1 .1 .1 .1 .1 .0))))
 omh-fill-fixed κs a x y s t p q = p ∙ sym q
 
-pub omh-bound-fixed : Fixes 2 omh-bound.ps omh-bound.r omh-bound-says.Post (Given ℤ) (λ κs x s. given x (now (s .1 .1 .1 .0)))
+pub omh-bound-fixed : Fixes 2 omh-bound.ps omh-bound.r omh-bound-says.Post (Outcome ℕ ℤ) (λ κs x s. outcome x (now (s .1 .1 .1 .0)))
 omh-bound-fixed κs a x y s t p q = p ∙ sym q
 
 pub omh-list-fixed : Fixes 2 omh-list.ps omh-list.r omh-list-says.Post (ℕ × List ℕ) (λ κs x s. (x, now (s .1 .0)))

@@ -1,26 +1,70 @@
 // What C sees: every exported function stands here and calls down. A slice is a pointer and a length, an array a pointer; an answer is 0 or a refusal number.
-use bench::Bounded;
-use bench::Told;
-use book::Done;
-use book::Held;
+use bound::Bounded;
 use frames::Age;
 use frames::Frame;
 use frames::Parsed;
-use frames::Written;
-use vote::Voted;
+use ground::Done;
+use ground::Told;
+use settings::Rack;
+use settings::Settings;
+use settings::Turn;
 ghost use mathlib.Core.Path.{_≡_};
 ghost use mathlib.Core.List.{_++_};
 ghost use lib.ListN.{length, drop};
+ghost use Rattle.ground.specs.Answer.{outcome, ofTold, ofDone};
 ghost use Rattle.words.specs.Word.{readAt, wrapped, unwrapped};
 ghost use Rattle.words.specs.Rule.{omh, majorityBy};
+ghost use Rattle.settings.specs.Asked.{settings};
 ghost use Rattle.vote.specs.Asked.{voteAsked};
-ghost use Rattle.book.specs.Asked.{bookOf, outcomeOf, openAsked, enterAsked, refillAsked, heldAsked};
+ghost use Rattle.book.specs.Book.{bookOf};
+ghost use Rattle.book.specs.Asked.{openAsked, heldAsked};
+ghost use Rattle.entering.specs.Asked.{enterAsked};
+ghost use Rattle.refilling.specs.Refilled.{refillAsked};
 ghost use Rattle.frames.specs.Ages.{nextNumber, ageOf, classOf, classNumber};
 ghost use Rattle.frames.specs.Asked.{readAsked, writeAsked};
-ghost use Rattle.frames.specs.Entry.{frameAsked};
-ghost use Rattle.bench.specs.Asked.{wordAsked, answerAsked, answersAsked, fillAsked, boundAsked};
+ghost use Rattle.arrivals.specs.Entry.{frameAsked};
+ghost use Rattle.bench.specs.Asked.{wordAsked, answerForAsked, answersAsked, fillAsked};
+ghost use Rattle.bound.specs.Bound.{boundAsked};
 ghost use Rattle.trials.specs.Listing.{textOf};
-ghost use Rattle.omh.specs.Numbers.{doneNumber, numbered, given, placed, placedAs, bit, answersGiven, writtenNumber, writtenGiven, frameWith, fieldsOf};
+ghost use Rattle.omh.specs.Numbers.{rack as rack·, turn as turn·, frameWith, numberOf, numbered, placed, placedAs, bit, fieldsOf};
+
+// ---- numbers in and out
+
+fn settings_of(n: usize, m: usize, t: usize, p: usize) -> Settings
+    ensures { λ r. ⌜ r ≡ settings n m t p ⌝ }
+{
+    let rack = Rack { n, m };
+    Settings { rack, t, p }
+}
+
+fn turn_of(n: usize, m: usize, t: usize) -> Turn
+    ensures { λ r. ⌜ r ≡ turn· n m t ⌝ }
+{
+    let rack = Rack { n, m };
+    Turn { rack, t }
+}
+
+fn number_of(d: Done) -> u8
+    ensures { λ r. ⌜ r ≡ numberOf (ofDone d) ⌝ }
+{
+    match d {
+        Done::Done => 0,
+        Done::Refused(k) => k,
+    }
+}
+
+// The word goes to its place.
+fn place(told: Told, at: &mut i32) -> u8
+    ensures { λ r. ⌜ outcome r (now (at .exit)) ≡ placed (ofTold told) (now (at .entry)) ⌝ }
+{
+    match told {
+        Told::Word(w) => {
+            *at = w;
+            0
+        }
+        Told::Refused(k) => k,
+    }
+}
 
 // ---- words
 
@@ -64,27 +108,12 @@ pub extern "C" fn omh_vote_at(
     slot: usize,
     vote: &mut i32,
 ) -> u8
-    ensures { λ r. ⌜ given r (now (vote .exit)) ≡ placed (voteAsked n m t p (now (words .entry)) slot) (now (vote .entry)) ⌝ }
+    ensures { λ r. ⌜ outcome r (now (vote .exit)) ≡ placed (voteAsked (settings n m t p) (now (words .entry)) slot) (now (vote .entry)) ⌝ }
 {
-    match vote::vote_at(n, m, t, p, words, slot) {
-        Voted::Word(w) => {
-            *vote = w;
-            0
-        }
-        Voted::Refused(k) => k,
-    }
+    place(vote::vote_at(settings_of(n, m, t, p), words, slot), vote)
 }
 
 // ---- the book
-
-fn number_of(d: Done) -> u8
-    ensures { λ r. ⌜ r ≡ doneNumber d ⌝ }
-{
-    match d {
-        Done::Done => 0,
-        Done::Refused(k) => k,
-    }
-}
 
 #[no_mangle]
 pub extern "C" fn omh_open(
@@ -95,9 +124,9 @@ pub extern "C" fn omh_open(
     words: &mut [i32],
     votes: &mut [i32],
 ) -> u8
-    ensures { λ r. ⌜ outcomeOf r (now (words .exit)) (now (votes .exit)) ≡ numbered (openAsked n m t p (bookOf (now (words .entry)) (now (votes .entry)))) ⌝ }
+    ensures { λ r. ⌜ outcome r (bookOf (now (words .exit)) (now (votes .exit))) ≡ numbered (openAsked (settings n m t p) (bookOf (now (words .entry)) (now (votes .entry)))) ⌝ }
 {
-    number_of(book::open(n, m, t, p, words, votes))
+    number_of(book::open(settings_of(n, m, t, p), words, votes))
 }
 
 #[no_mangle]
@@ -111,9 +140,9 @@ pub extern "C" fn omh_enter(
     slot: usize,
     word: i32,
 ) -> u8
-    ensures { λ r. ⌜ outcomeOf r (now (words .exit)) (now (votes .exit)) ≡ numbered (enterAsked n m t p (bookOf (now (words .entry)) (now (votes .entry))) slot word) ⌝ }
+    ensures { λ r. ⌜ outcome r (bookOf (now (words .exit)) (now (votes .exit))) ≡ numbered (enterAsked (settings n m t p) (bookOf (now (words .entry)) (now (votes .entry))) slot word) ⌝ }
 {
-    number_of(book::enter(n, m, t, p, words, votes, slot, word))
+    number_of(entering::enter(settings_of(n, m, t, p), words, votes, slot, word))
 }
 
 #[no_mangle]
@@ -125,22 +154,16 @@ pub extern "C" fn omh_refill(
     words: &[i32],
     votes: &mut [i32],
 ) -> u8
-    ensures { λ r. ⌜ outcomeOf r (now (words .entry)) (now (votes .exit)) ≡ numbered (refillAsked n m t p (bookOf (now (words .entry)) (now (votes .entry)))) ⌝ }
+    ensures { λ r. ⌜ outcome r (bookOf (now (words .entry)) (now (votes .exit))) ≡ numbered (refillAsked (settings n m t p) (bookOf (now (words .entry)) (now (votes .entry)))) ⌝ }
 {
-    number_of(book::refill(n, m, t, p, words, votes))
+    number_of(refilling::refill(settings_of(n, m, t, p), words, votes))
 }
 
 #[no_mangle]
 pub extern "C" fn omh_held_answer(words: &[i32], votes: &[i32], answer: &mut i32) -> u8
-    ensures { λ r. ⌜ given r (now (answer .exit)) ≡ placed (heldAsked (bookOf (now (words .entry)) (now (votes .entry)))) (now (answer .entry)) ⌝ }
+    ensures { λ r. ⌜ outcome r (now (answer .exit)) ≡ placed (heldAsked (bookOf (now (words .entry)) (now (votes .entry)))) (now (answer .entry)) ⌝ }
 {
-    match book::held_answer(words, votes) {
-        Held::Word(w) => {
-            *answer = w;
-            0
-        }
-        Held::Refused(k) => k,
-    }
+    place(book::held_answer(words, votes), answer)
 }
 
 // ---- frames
@@ -166,8 +189,8 @@ pub extern "C" fn omh_age_class(current: u16, frame: u16) -> u8
 {
     match frames::age_class(current, frame) {
         Age::Current => 0,
-        Age::Old => paths::refusal::OLD,
-        Age::Ahead => paths::refusal::AHEAD,
+        Age::Old => ground::refusal::OLD,
+        Age::Ahead => ground::refusal::AHEAD,
     }
 }
 
@@ -192,7 +215,7 @@ fn fields_of(f: Frame) -> [i32; FIELDS]
 
 #[no_mangle]
 pub extern "C" fn omh_read_frame(bytes: &[u8], fields: &mut [i32; FIELDS]) -> u8
-    ensures { λ r. ⌜ given r (now (fields .exit)) ≡ placedAs fieldsOf (readAsked (now (bytes .entry))) (now (fields .entry)) ⌝ }
+    ensures { λ r. ⌜ outcome r (now (fields .exit)) ≡ placedAs fieldsOf (readAsked (now (bytes .entry))) (now (fields .entry)) ⌝ }
 {
     match frames::read(bytes) {
         Parsed::Frame(f) => {
@@ -200,15 +223,6 @@ pub extern "C" fn omh_read_frame(bytes: &[u8], fields: &mut [i32; FIELDS]) -> u8
             0
         }
         Parsed::Refused(k) => k,
-    }
-}
-
-fn written_number(w: Written) -> u8
-    ensures { λ r. ⌜ r ≡ writtenNumber w ⌝ }
-{
-    match w {
-        Written::Done => 0,
-        Written::Refused(k) => k,
     }
 }
 
@@ -224,7 +238,7 @@ pub extern "C" fn omh_write_frame(
     word: i32,
     buffer: &mut [u8],
 ) -> u8
-    ensures { λ r. ⌜ given r (now (buffer .exit)) ≡ writtenGiven (writeAsked (frameWith exchange sender level q1 q2 q3 receiver word) (now (buffer .entry))) ⌝ }
+    ensures { λ r. ⌜ outcome r (now (buffer .exit)) ≡ numbered (writeAsked (frameWith exchange sender level q1 q2 q3 receiver word) (now (buffer .entry))) ⌝ }
 {
     let frame = Frame {
         exchange,
@@ -236,7 +250,7 @@ pub extern "C" fn omh_write_frame(
         receiver,
         word,
     };
-    written_number(frames::write(frame, buffer))
+    number_of(frames::write(frame, buffer))
 }
 
 #[no_mangle]
@@ -250,9 +264,9 @@ pub extern "C" fn omh_enter_frame(
     current: u16,
     frame: &[u8],
 ) -> u8
-    ensures { λ r. ⌜ outcomeOf r (now (words .exit)) (now (votes .exit)) ≡ numbered (frameAsked n m t p (bookOf (now (words .entry)) (now (votes .entry))) current (now (frame .entry))) ⌝ }
+    ensures { λ r. ⌜ outcome r (bookOf (now (words .exit)) (now (votes .exit))) ≡ numbered (frameAsked (settings n m t p) (bookOf (now (words .entry)) (now (votes .entry))) current (now (frame .entry))) ⌝ }
 {
-    number_of(frames::enter(n, m, t, p, words, votes, current, frame))
+    number_of(arrivals::enter(settings_of(n, m, t, p), words, votes, current, frame))
 }
 
 // ---- the bench
@@ -269,15 +283,12 @@ pub extern "C" fn omh_word_for(
     slot: usize,
     word: &mut i32,
 ) -> u8
-    ensures { λ r. ⌜ given r (now (word .exit)) ≡ placed (wordAsked n m t x (now (statuses .entry)) (now (table .entry)) p slot) (now (word .entry)) ⌝ }
+    ensures { λ r. ⌜ outcome r (now (word .exit)) ≡ placed (wordAsked (settings n m t p) x (now (statuses .entry)) (now (table .entry)) slot) (now (word .entry)) ⌝ }
 {
-    match bench::word_for(n, m, t, x, statuses, table, p, slot) {
-        Told::Word(w) => {
-            *word = w;
-            0
-        }
-        Told::Refused(k) => k,
-    }
+    place(
+        bench::word_for(settings_of(n, m, t, p), x, statuses, table, slot),
+        word,
+    )
 }
 
 #[no_mangle]
@@ -291,15 +302,12 @@ pub extern "C" fn omh_answer_for(
     p: usize,
     answer: &mut i32,
 ) -> u8
-    ensures { λ r. ⌜ given r (now (answer .exit)) ≡ placed (answerAsked n m t x (now (statuses .entry)) (now (table .entry)) p) (now (answer .entry)) ⌝ }
+    ensures { λ r. ⌜ outcome r (now (answer .exit)) ≡ placed (answerForAsked (settings n m t p) x (now (statuses .entry)) (now (table .entry))) (now (answer .entry)) ⌝ }
 {
-    match bench::answer_for(n, m, t, x, statuses, table, p) {
-        Told::Word(w) => {
-            *answer = w;
-            0
-        }
-        Told::Refused(k) => k,
-    }
+    place(
+        bench::answer_for(settings_of(n, m, t, p), x, statuses, table),
+        answer,
+    )
 }
 
 #[no_mangle]
@@ -312,9 +320,9 @@ pub extern "C" fn omh_all_answers(
     table: &[i32],
     answers: &mut [i32],
 ) -> u8
-    ensures { λ r. ⌜ given r (now (answers .exit)) ≡ answersGiven (answersAsked n m t x (now (statuses .entry)) (now (table .entry)) (now (answers .entry))) ⌝ }
+    ensures { λ r. ⌜ outcome r (now (answers .exit)) ≡ numbered (answersAsked (turn· n m t) x (now (statuses .entry)) (now (table .entry)) (now (answers .entry))) ⌝ }
 {
-    number_of(bench::all_answers(n, m, t, x, statuses, table, answers))
+    number_of(bench::all_answers(turn_of(n, m, t), x, statuses, table, answers))
 }
 
 #[no_mangle]
@@ -329,17 +337,17 @@ pub extern "C" fn omh_fill(
     words: &mut [i32],
     votes: &mut [i32],
 ) -> u8
-    ensures { λ r. ⌜ outcomeOf r (now (words .exit)) (now (votes .exit)) ≡ numbered (fillAsked n m t x (now (statuses .entry)) (now (table .entry)) p (bookOf (now (words .entry)) (now (votes .entry)))) ⌝ }
+    ensures { λ r. ⌜ outcome r (bookOf (now (words .exit)) (now (votes .exit))) ≡ numbered (fillAsked (settings n m t p) x (now (statuses .entry)) (now (table .entry)) (bookOf (now (words .entry)) (now (votes .entry)))) ⌝ }
 {
-    number_of(bench::fill(n, m, t, x, statuses, table, p, words, votes))
+    number_of(bench::fill(settings_of(n, m, t, p), x, statuses, table, words, votes))
 }
 
 // 1 in the place where the bound holds, else 0.
 #[no_mangle]
 pub extern "C" fn omh_bound(n: usize, m: usize, statuses: &[u8], held: &mut i32) -> u8
-    ensures { λ r. ⌜ given r (now (held .exit)) ≡ placedAs bit (boundAsked n m (now (statuses .entry))) (now (held .entry)) ⌝ }
+    ensures { λ r. ⌜ outcome r (now (held .exit)) ≡ placedAs bit (boundAsked (rack· n m) (now (statuses .entry))) (now (held .entry)) ⌝ }
 {
-    match bench::bound(n, m, statuses) {
+    match bound::bound(Rack { n, m }, statuses) {
         Bounded::Held => {
             *held = 1;
             0

@@ -7,7 +7,7 @@ use native.Mathlib.Omega.{arith}
 use lib.Dec.{ltb, ltb→lt, lt→ltb, nltb→le}
 use lib.ListN.{length}
 use Rattle.paths.specs.Slots.{below, slotOf, above, lastRelay, level, relaysBy, relays, wayBy, way}
-use Rattle.paths.proofs.Bools.{cond-yes, cond-no, le→nltb}
+use Rattle.ground.proofs.Bools.{cond-yes, cond-no, le→nltb}
 
 -- ---- levels
 pub level-0 : (k : ℕ) → k < 1 → level k ≡ 0

@@ -1,8 +1,8 @@
-pub mod Bools
-pub mod Verdicts
 pub mod Levels
 pub mod Live
 pub mod Relays
+pub mod Members
+pub mod Handed
+pub mod Walk
 pub mod Asking
-pub mod Tables
 pub mod Fixed

@@ -1,5 +1,3 @@
-pub mod Refusal
-pub mod Checks
-pub mod Rack
 pub mod Slots
+pub mod Walk
 pub mod Asked

@@ -3,11 +3,9 @@ use Prim.Native.Nat.{ℕ, zero, suc, _+_, _*_, _-_, _/_, _%_}
 use mathlib.Core.Bool.{Bool, true, cond, not, _&&_, _||_}
 use mathlib.Core.List.{List, [], _∷_}
 use lib.Dec.{ltb, leb, eqb}
-use Rattle.paths.specs.Rack.{Rack}
-
--- how many slots there are
-abbrev pub slots : ℕ
-slots = 1111
+use Rattle.ground.specs.Lists.{table, all}
+use Rattle.settings.specs.Settings.{mostCards, slots, fits}
+use Rattle.settings.specs.declared.Settings.{Settings}
 
 -- the slot of the path that is one relay longer than the path at k, by the relay q
 abbrev pub below : ℕ → ℕ → ℕ
@@ -28,7 +26,7 @@ lastRelay k = (k - 1) % 10
 
 -- the level of the path at k; a number over 1,110 is no slot, and gets a level over every m
 unfoldable pub level : ℕ → ℕ
-level k = cond (ltb k 1) 0 (cond (ltb k 11) 1 (cond (ltb k 111) 2 (cond (ltb k 1111) 3 4)))
+level k = cond (ltb k 1) 0 (cond (ltb k 11) 1 (cond (ltb k 111) 2 (cond (ltb k slots) 3 4)))
 
 -- the last d relays of the path at k, the last relay first
 unfoldable pub relaysBy : ℕ → ℕ → List ℕ
@@ -46,10 +44,6 @@ wayBy (suc d) k = k ∷ wayBy d (above k)
 abbrev pub way : ℕ → List ℕ
 way k = wayBy (level k) k
 
-unfoldable pub all : (ℕ → Bool) → List ℕ → Bool
-all f [] = true
-all f (q ∷ qs) = f q && all f qs
-
 -- q is none of these cards
 unfoldable pub noneOf : ℕ → List ℕ → Bool
 noneOf q qs = all (λ r. not (eqb q r)) qs
@@ -58,28 +52,27 @@ unfoldable pub different : List ℕ → Bool
 different [] = true
 different (q ∷ qs) = noneOf q qs && different qs
 
--- a fitted card that is neither the sender nor the own card
-unfoldable pub mayRelay : Rack → ℕ → Bool
-mayRelay S q = S .fitted q && (not (eqb q (S .sender)) && not (eqb q (S .own)))
+-- a card of the rack that is neither the sender nor the own card
+unfoldable pub mayRelay : Settings → ℕ → Bool
+mayRelay s q = fits (s .rack) q && (not (eqb q (s .t)) && not (eqb q (s .p)))
 
--- Live for the own card: a slot, its level at most m, its relays fitted, neither t nor p, and all different; where p is t, slot 0 only.
-unfoldable pub live : Rack → ℕ → Bool
-live S k =
+-- Live for the own card: a slot, its level at most m, its relays of the rack, neither t nor p, and all different; where p is t, slot 0 only.
+unfoldable pub live : Settings → ℕ → Bool
+live s k =
     ltb k slots
-    && (leb (level k) (S .rounds)
-    && (all (mayRelay S) (relays k)
+    && (leb (level k) (s .rack .m)
+    && (all (mayRelay s) (relays k)
     && (different (relays k)
-    && (eqb k 0 || not (eqb (S .own) (S .sender))))))
-
--- f at each of the n numbers from s on
-unfoldable pub table : {A : Type 0} → ℕ → ℕ → (ℕ → A) → List A
-table zero s f = []
-table (suc n) s f = f s ∷ table n (suc s) f
+    && (eqb k 0 || not (eqb (s .p) (s .t))))))
 
 -- q may lengthen the path at k: it may relay, and is not on the path
-unfoldable pub lengthens : Rack → ℕ → ℕ → Bool
-lengthens S k q = ltb k slots && (mayRelay S q && noneOf q (relays k))
+unfoldable pub lengthens : Settings → ℕ → ℕ → Bool
+lengthens s k q = mayRelay s q && noneOf q (relays k)
 
 -- whether each of the ten cards may lengthen the path at k
-abbrev pub membersOf : Rack → ℕ → List Bool
-membersOf S k = table 10 0 (lengthens S k)
+abbrev pub membersOf : Settings → ℕ → List Bool
+membersOf s k = table mostCards 0 (lengthens s k)
+
+-- the rounds left at level d; none where p is t
+unfoldable pub roundsLeft : Settings → ℕ → ℕ
+roundsLeft s d = cond (eqb (s .p) (s .t)) 0 (s .rack .m - d)

@@ -3,7 +3,7 @@ use Prim.Native.Nat.{ℕ}
 use mathlib.Core.Path.{sym, _∙_}
 use mathlib.Core.List.{List}
 use denote.Ref.{now}
-use Rattle.words.specs.Fixes.{Fixes}
+use Rattle.ground.specs.Fixes.{Fixes}
 use Rattle.text.proofs.decimal.Kinds as decimal
 use Rattle.text.proofs.decimal.Reads as decimal-says
 

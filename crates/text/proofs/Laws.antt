@@ -52,11 +52,11 @@ abbrev pub numberOf : List ℕ → ℤ
 numberOf [] = pos 0
 numberOf (b ∷ bs) = cond (eqb b 45) (negℤ (pos (reading 0 bs))) (pos (reading 0 (b ∷ bs)))
 
-reading-last : (n : ℕ) (ds : List ℕ) (b : ℕ) → reading n (ds ++ (b ∷ [])) ≡ 10 * reading n ds + (b - 48)
+pub reading-last : (n : ℕ) (ds : List ℕ) (b : ℕ) → reading n (ds ++ (b ∷ [])) ≡ 10 * reading n ds + (b - 48)
 reading-last n [] b = refl
 reading-last n (d ∷ ds) b = reading-last (10 * n + (d - 48)) ds b
 
-digits-read : (k n : ℕ) → n < 10 ^ k → reading 0 (digitsOf k n) ≡ n
+pub digits-read : (k n : ℕ) → n < 10 ^ k → reading 0 (digitsOf k n) ≡ n
 digits-read =
     by-digits (λ k n ds. n < 10 ^ k → reading 0 ds ≡ n) (λ n h. omega arith) (λ k n h _. omega arith)
     (λ k n ds h ih f. omega (arith, reading-last 0 ds (last n), ih (omega (arith, pow-succ' 10 k))))

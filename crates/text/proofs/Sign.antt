@@ -12,7 +12,7 @@ use lib.Signed.{leZ, nonNeg}
 use mir.Syntax.{w32}
 use mir.Val.{Fits, SFits}
 use mir.ValLaws.{toZ-pos}
-use Rattle.words.proofs.Bits.{back, back-is}
+use Rattle.ground.proofs.Bits.{back, back-is}
 use Rattle.text.specs.Decimal.{digitsOf, decimalOf}
 
 pub record Plus (x : ℤ) : Type 0 where

@@ -1,18 +1,18 @@
 -- A file longer than any that is not refused: its first 473 bytes give the same text.
 use Prim.Native.Nat.{ℕ, _+_, _*_, _≤_, _<_}
-use mathlib.Core.Path.{_≡_, refl, sym, _∙_}
-use mathlib.Core.Bool.{Bool, true, false, not}
+use mathlib.Core.Path.{_≡_, refl, sym, ap, _∙_}
+use mathlib.Core.Bool.{Bool, true, false, cond, not, true≢false}
 use mathlib.Core.List.{List, [], _∷_}
 use native.Mathlib.Omega.{arith}
 use borrow.Author.Tests.{le-ltb, le-leb, ne-eqb, ltb-false}
 use lib.Dec.{eqb, ltb}
 use lib.ListN.{length, take}
 use lib.Seq.{getD-take, length-take-le}
-use Rattle.paths.specs.Refusal as refusal
-use Rattle.paths.specs.Checks.{Check, check, verdict}
-use Rattle.paths.proofs.Verdicts.{still-refused}
-use Rattle.frames.specs.Bytes.{byte, starts, be16}
-use Rattle.trials.specs.File.{mark, version, exceptions, shapeChecks}
+use Rattle.ground.specs.Refusal as refusal
+use Rattle.ground.specs.Checks.{Check, check, verdict}
+use Rattle.ground.specs.Bytes.{byte, starts, be16}
+use Rattle.ground.proofs.Verdicts.{no-verdict, still-refused}
+use Rattle.files.specs.File.{mark, version, exceptions, shapeChecks}
 use Rattle.trials.specs.Listing.{refusedLine, textOf}
 use Rattle.trials.proofs.Text.{refused-text}
 
@@ -25,30 +25,23 @@ longChecks file =
     ∷ check refusal.size true
     ∷ []
 
--- the last check decides only where there are at most 64 exceptions
-long-shape : (file : List ℕ) → 473 ≤ length file → verdict (shapeChecks file) ≡ verdict (longChecks file)
-unfolding verdict
-long-shape file h = rw (le-ltb (length file) 24 (omega arith)) (under (not (starts file mark)) (not (eqb (be16 file 3) version)) (ltb 64 (exceptions file)) refl)
-  where
-    wrong : (n : Bool) → ltb 64 (exceptions file) ≡ n → verdict (check refusal.exception n ∷ check refusal.size (not (eqb (length file) (24 + 7 * exceptions file))) ∷ []) ≡ verdict (check refusal.exception n ∷ check refusal.size true ∷ [])
-    wrong true e = refl
-    wrong false e = rw (ne-eqb (length file) (24 + 7 * exceptions file) (λ q. omega (arith, ltb-false 64 (exceptions file) e)))
-
-    under : (a b n : Bool) → ltb 64 (exceptions file) ≡ n → verdict (check refusal.mark a ∷ check refusal.version b ∷ check refusal.exception n ∷ check refusal.size (not (eqb (length file) (24 + 7 * exceptions file))) ∷ []) ≡ verdict (check refusal.mark a ∷ check refusal.version b ∷ check refusal.exception n ∷ check refusal.size true ∷ [])
-    under true b n e = refl
-    under false true n e = refl
-    under false false n e = wrong n e
-
 -- one of them applies
 some-long : (file : List ℕ) → verdict (longChecks file) ≡ 0 → ⊥
+some-long file e = true≢false (no-verdict (longChecks file) tt e .1 .1 .1 .0)
+
+-- the last check decides only where there are at most 64 exceptions
+long-shape : (file : List ℕ) → 473 ≤ length file → verdict (longChecks file) ≡ verdict (shapeChecks file)
 unfolding verdict
-some-long file = go (not (starts file mark)) (not (eqb (be16 file 3) version)) (ltb 64 (exceptions file))
+long-shape file h =
+    rw (le-ltb (length file) 24 (omega arith))
+    (ap (λ (v : ℕ). cond (not (starts file mark)) refusal.mark (cond (not (eqb (be16 file 3) version)) refusal.version v)) (go (ltb 64 (exceptions file)) refl))
   where
-    go : (a b n : Bool) → verdict (check refusal.mark a ∷ check refusal.version b ∷ check refusal.exception n ∷ check refusal.size true ∷ []) ≡ 0 → ⊥
-    go true b n e = omega arith
-    go false true n e = omega arith
-    go false false true e = omega arith
-    go false false false e = omega arith
+    go : (b : Bool) → ltb 64 (exceptions file) ≡ b → cond b refusal.exception refusal.size ≡ cond b refusal.exception (cond (not (eqb (length file) (24 + 7 * exceptions file))) refusal.size 0)
+    go true e = refl
+    go false e = rw (ne-eqb (length file) (24 + 7 * exceptions file) (λ q. omega (arith, ltb-false 64 (exceptions file) e)))
+
+refused-long : (file : List ℕ) → 473 ≤ length file → refusedLine (verdict (longChecks file)) ≡ textOf file
+refused-long file h = refused-text file (still-refused (shapeChecks file) _ tt (long-shape file h) (some-long file)) (some-long file)
 
 module _ (file : List ℕ) (h : 473 ≤ length file) where
   same-byte : (k : ℕ) → k < 473 → byte (take 473 file) k ≡ byte file k
@@ -64,9 +57,6 @@ module _ (file : List ℕ) (h : 473 ≤ length file) where
   same-starts : starts (take 473 file) mark ≡ starts file mark
   unfolding starts
   same-starts = rw (same-byte 0 (omega arith), same-byte 1 (omega arith), same-byte 2 (omega arith), cut-long, le-leb 3 (length file) (omega arith))
-
-  refused-long : (f : List ℕ) → 473 ≤ length f → refusedLine (verdict (longChecks f)) ≡ textOf f
-  refused-long f g = refused-text f (still-refused (shapeChecks f) tt _ (sym (long-shape f g)) (some-long f)) (some-long f)
 
   pub long-text : textOf (take 473 file) ≡ textOf file
   long-text =

@@ -12,20 +12,24 @@ use Rattle.trials.specs.Storing.{Stored}
 pub then : {l m o : List ℕ} {i j k : ℕ} (p q : List ℕ) → Stored l i p j m → Stored m j q k o → Stored l i (p ++ q) k o
 then {l} {m} {o} {i} p q a b = record {
   ends = omega (arith, a .ends, b .ends, length-append p q);
-  leaves = b .leaves ∙ rw (a .leaves, a .ends) (sym (sets-append p q l i));
+  stores = b .stores ∙ rw (a .stores, a .ends) (sym (sets-append p q l i));
 }
 
 -- nothing stored yet
 pub nothing : (l : List ℕ) (i : ℕ) → Stored l i [] i l
-nothing l i = record { ends = omega arith; leaves = refl }
+nothing l i = record { ends = omega arith; stores = refl }
 
 -- a list keeps its length
 pub kept : {l m p : List ℕ} {i j : ℕ} → Stored l i p j m → length m ≡ length l
-kept {l} {m} {p} {i} a = ap length (a .leaves) ∙ length-sets l i p
+kept {l} {m} {p} {i} a = ap length (a .stores) ∙ length-sets l i p
 
 -- the same piece by another name
 pub renamed : {l m p q : List ℕ} {i j : ℕ} → p ≡ q → Stored l i p j m → Stored l i q j m
 renamed e a = rw (← e) a
+
+-- the same place and list by other names
+pub moved : {l m n p : List ℕ} {i j k : ℕ} → k ≡ j → n ≡ m → Stored l i p j m → Stored l i p k n
+moved e f a = rw (e, f) a
 
 -- a list that begins with the text of x, by its contract
 module _ {X : Type 0} (text : X → List ℕ) (x : X) (made before : List ℕ) {many : ℕ} (e : many ≡ length (text x)) (h : made ≡ text x ++ drop (length (text x)) before) where

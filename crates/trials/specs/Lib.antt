@@ -1,3 +1,2 @@
-pub mod File
 pub mod Listing
 pub mod Storing

@@ -6,12 +6,13 @@ use lib.IntN.{ℤ, pos}
 use lib.ListN.{getD}
 use Rattle.words.specs.Word.{E}
 use Rattle.words.specs.Majority.{same}
-use Rattle.words.specs.Rule.{omh}
 use Rattle.text.specs.Decimal.{decimalOf}
-use Rattle.paths.specs.Checks.{verdict, Answer, value, refused, answer}
-use Rattle.bench.specs.Exchange.{answerOf}
-use Rattle.bench.specs.Bound.{bounded}
-use Rattle.trials.specs.File.{cards, statuses, exchangeOf, fileChecks}
+use Rattle.ground.specs.Checks.{verdict}
+use Rattle.ground.specs.Answer.{Answer, value, refused, answer}
+use Rattle.settings.specs.Settings.{mostCards, fits, ruleOf}
+use Rattle.exchange.specs.Exchange.{statusesOf, answerOf}
+use Rattle.bound.specs.Bound.{bounded}
+use Rattle.files.specs.File.{turnIn, statuses, exchangeOf, fileChecks}
 
 -- LF
 abbrev pub ending : List ℕ
@@ -25,10 +26,10 @@ answerText w = cond (same E w) (45 ∷ []) (decimalOf w)
 unfoldable pub lineOf : ℕ → ℕ → ℤ → List ℕ
 lineOf p status w = ((48 + p) ∷ 32 ∷ (48 + status) ∷ 32 ∷ []) ++ answerText w ++ ending
 
--- a line to each of the cards below n, in rising order
-unfoldable pub lines : (ℕ → List ℕ) → ℕ → List ℕ
-lines line zero = []
-lines line (suc n) = lines line n ++ line n
+-- a line to each of the first c cards that passes, in rising order
+unfoldable pub lines : (ℕ → Bool) → (ℕ → List ℕ) → ℕ → List ℕ
+lines passes line zero = []
+lines passes line (suc c) = lines passes line c ++ cond (passes c) (line c) []
 
 -- `bound held` or `bound not held`
 unfoldable pub boundLine : Bool → List ℕ
@@ -41,7 +42,12 @@ refusedLine k = (114 ∷ 101 ∷ 102 ∷ 117 ∷ 115 ∷ 101 ∷ 100 ∷ 32 ∷ 
 
 -- the line of card p of a file's exchange
 abbrev pub cardLine : List ℕ → ℕ → List ℕ
-cardLine file p = lineOf p (getD (statuses file) p 0) (answerOf omh (exchangeOf file) p)
+cardLine file p = lineOf p (getD (statuses file) p 0) (answerOf (ruleOf (turnIn file .rack)) (exchangeOf file) p)
+
+-- the lines of the rack's cards, then the bound's
+abbrev pub listed : List ℕ → List ℕ
+listed file =
+    lines (fits (turnIn file .rack)) (cardLine file) mostCards ++ boundLine (bounded (turnIn file .rack) (statusesOf (statuses file)))
 
 -- a refusal prints only its line
 abbrev pub printed : Answer (List ℕ) → List ℕ
@@ -49,5 +55,4 @@ printed (value text) = text
 printed (refused k) = refusedLine k
 
 unfoldable pub textOf : List ℕ → List ℕ
-textOf file =
-    printed (answer (verdict (fileChecks file)) (lines (cardLine file) (cards file) ++ boundLine (bounded (exchangeOf file))))
+textOf file = printed (answer (verdict (fileChecks file)) (listed file))

@@ -1,25 +1,23 @@
 // Document 01, 'Listing program': the text that a listing file gives.
-pub mod file;
-
-use bench::Bounded;
-use paths::Settings;
+use bound::Bounded;
+use files::Head;
+use files::Headed;
+use settings::Rack;
+use settings::Settings;
 use words::E;
 ghost use mathlib.Core.Path.{_≡_};
 ghost use mathlib.Core.List.{_++_};
 ghost use Prim.Native.Nat.{ℕ, _+_, _*_, _≤_, _<_};
 ghost use lib.ListN.{length, getD, drop};
+ghost use Rattle.ground.specs.Lists.{at as wordAt};
 ghost use Rattle.text.specs.Decimal.{decimalOf};
-ghost use Rattle.paths.specs.Checks.{verdict};
-ghost use Rattle.vote.specs.Vote.{at as wordAt};
-ghost use Rattle.bench.specs.Bound.{bounded};
-ghost use Rattle.trials.specs.File.{cards, exchangeOf, fileChecks};
-ghost use Rattle.trials.specs.Listing.{answerText, lineOf, lines, cardLine, boundLine, refusedLine, textOf};
-ghost use Rattle.trials.specs.Storing.{Stored};
+ghost use Rattle.settings.specs.Settings.{mostCards, fits};
+ghost use Rattle.files.specs.File.{turnIn};
+ghost use Rattle.trials.specs.Listing.{answerText, lineOf, lines, cardLine, listed, refusedLine, textOf};
+ghost use Rattle.trials.specs.Storing.{Stored, Accepted};
 
 // Room for the longest text: ten lines of 16 bytes, one of 15, and a place to spare.
 pub const TEXT: usize = 176;
-
-const TABLE: usize = Settings::SLOTS * Settings::MAX_CARDS;
 
 const HELD: [u8; 11] = *b"bound held\n";
 
@@ -74,27 +72,18 @@ fn put_line(p: u8, status: u8, word: i32, at: usize, text: &mut [u8]) -> usize
     put(&ENDING, end, text)
 }
 
-// Stores a line for each of the n cards.
-fn put_lines(n: usize, statuses: &[u8], answers: &[i32], text: &mut [u8]) -> usize
-    requires { ⌜ (n ≤ 10) × (length (now statuses) ≡ 10) × ((q : ℕ) → q < 10 → getD (now statuses) q 0 ≤ 3) × (length (now answers) ≡ 10) × (16 * n ≤ length (now text)) ⌝ }
-    ensures { λ r. ⌜ Stored (now (text .entry)) 0 (lines (λ p. lineOf p (getD (now (statuses .entry)) p 0) (wordAt (now (answers .entry)) p)) n) r (now (text .exit)) ⌝ }
+// Stores a line for each card of the rack.
+fn put_lines(rack: Rack, statuses: &[u8], answers: &[i32], text: &mut [u8]) -> usize
+    requires { ⌜ (length (now statuses) ≡ 10) × ((q : ℕ) → q < 10 → getD (now statuses) q 0 ≤ 3) × (length (now answers) ≡ 10) × (160 ≤ length (now text)) ⌝ }
+    ensures { λ r. ⌜ Stored (now (text .entry)) 0 (lines (fits rack) (λ p. lineOf p (getD (now (statuses .entry)) p 0) (wordAt (now (answers .entry)) p)) mostCards) r (now (text .exit)) ⌝ }
 {
     let mut end = 0;
-    for p in 0..n {
-        end = put_line(p as u8, statuses[p], answers[p], end, text);
+    for p in 0..Settings::MAX_CARDS {
+        if settings::fits(rack, p) {
+            end = put_line(p as u8, statuses[p], answers[p], end, text);
+        }
     }
     end
-}
-
-fn put_bound(held: bool, at: usize, text: &mut [u8]) -> usize
-    requires { ⌜ at + 15 ≤ length (now text) ⌝ }
-    ensures { λ r. ⌜ Stored (now (text .entry)) at (boundLine held) r (now (text .exit)) ⌝ }
-{
-    if held {
-        put(&HELD, at, text)
-    } else {
-        put(&NOT_HELD, at, text)
-    }
 }
 
 fn put_refused(no: u8, text: &mut [u8]) -> usize
@@ -106,29 +95,35 @@ fn put_refused(no: u8, text: &mut [u8]) -> usize
     put(&ENDING, end, text)
 }
 
-// Stores the lines of the n cards.
-fn put_cards(file: &[u8], text: &mut [u8]) -> usize
-    requires { ⌜ (verdict (fileChecks (now file)) ≡ 0) × (length (now text) ≡ 176) ⌝ }
-    ensures { λ r. ⌜ Stored (now (text .entry)) 0 (lines (cardLine (now (file .entry))) (cards (now (file .entry)))) r (now (text .exit)) ⌝ }
+// Stores the lines of the cards of a file with this head.
+fn put_cards(file: &[u8], h: Head, text: &mut [u8]) -> usize
+    requires { ⌜ Accepted (now file) h × (length (now text) ≡ 176) ⌝ }
+    ensures { λ r. ⌜ Stored (now (text .entry)) 0 (lines (fits (turnIn (now (file .entry)) .rack)) (cardLine (now (file .entry))) mostCards) r (now (text .exit)) ⌝ }
 {
-    let h = file::head_of(file);
-    let mut table = [E; TABLE];
-    file::tell(file, &mut table);
+    let turn = h.turn;
+    let mut table = [E; exchange::TABLE];
+    files::tell(file, &mut table);
     let mut answers = [E; Settings::MAX_CARDS];
-    bench::all_answers(h.n, h.m, h.t, h.x, &file[8..18], &table, &mut answers);
-    put_lines(h.n, &file[8..18], &answers, text)
+    bench::all_answers(turn, h.x, &file[8..18], &table, &mut answers);
+    put_lines(turn.rack, &file[8..18], &answers, text)
 }
 
-// Whether the bound holds for a file's exchange.
-fn bound_held(file: &[u8]) -> bool
-    requires { ⌜ verdict (fileChecks (now file)) ≡ 0 ⌝ }
-    ensures { λ r. ⌜ r ≡ bounded (exchangeOf (now (file .entry))) ⌝ }
+// Stores the text of a file with this head. Two calls of `put_cards` keep it a function of its own in the archive, so that a refused file does not take the table's stack.
+fn put_listed(file: &[u8], h: Head, text: &mut [u8]) -> usize
+    requires { ⌜ Accepted (now file) h × (length (now text) ≡ 176) ⌝ }
+    ensures { λ r. ⌜ Stored (now (text .entry)) 0 (listed (now (file .entry))) r (now (text .exit)) ⌝ }
 {
-    let h = file::head_of(file);
-    match bench::bound(h.n, h.m, &file[8..18]) {
-        Bounded::Held => true,
-        Bounded::NotHeld => false,
-        Bounded::Refused(_) => false,
+    let turn = h.turn;
+    match bound::bound(turn.rack, &file[8..18]) {
+        Bounded::Held => {
+            let end = put_cards(file, h, text);
+            put(&HELD, end, text)
+        }
+        Bounded::NotHeld => {
+            let end = put_cards(file, h, text);
+            put(&NOT_HELD, end, text)
+        }
+        Bounded::Refused(no) => put_refused(no, text),
     }
 }
 
@@ -136,10 +131,8 @@ fn bound_held(file: &[u8]) -> bool
 pub fn list(file: &[u8], text: &mut [u8; TEXT]) -> usize
     ensures { λ r. ⌜ (r ≡ length (textOf (now (file .entry)))) × (now (text .exit) ≡ textOf (now (file .entry)) ++ drop (length (textOf (now (file .entry)))) (now (text .entry))) ⌝ }
 {
-    let no = file::refused(file);
-    if no != 0 {
-        return put_refused(no, text);
+    match files::read(file) {
+        Headed::Refused(no) => put_refused(no, text),
+        Headed::Head(h) => put_listed(file, h, text),
     }
-    let end = put_cards(file, text);
-    put_bound(bound_held(file), end, text)
 }

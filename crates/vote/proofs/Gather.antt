@@ -7,23 +7,14 @@ use native.Mathlib.Numerals.{add-one, sub-one}
 use native.Mathlib.Omega.{arith}
 use lib.IntN.{ℤ}
 use lib.ListN.{length, set, take, length-append, length-take, length-set}
-use lib.Seq.{set-set, set-getD, take-suc-set}
+use lib.Seq.{take-suc-set}
 use Rattle.words.specs.Rule.{Rule, majorityBy}
-use Rattle.paths.specs.Slots.{below}
-use Rattle.vote.specs.Vote.{at, over, decided}
-use Rattle.vote.specs.Members.{may, memberVote, membersVotes, room, Reports}
+use Rattle.ground.specs.Lists.{at, over}
+use Rattle.ground.proofs.Lists.{over-snoc}
+use Rattle.vote.specs.Vote.{decided}
+use Rattle.vote.specs.Members.{memberVote, membersVotes, Reports}
 
 -- ---- one card more
-
--- the card after c cards from q on
-pub over-snoc : (p : ℕ → Bool) (f : ℕ → ℤ) (c q : ℕ) → over p f (suc c) q ≡ over p f c q ++ cond (p (q + c)) (f (q + c) ∷ []) []
-unfolding over
-over-snoc p f zero q = let e : q + 0 ≡ q = omega arith in rw e
-over-snoc p f (suc c) q = go (p q) _ (over-snoc p f c (suc q) ∙ ap (λ (x : ℕ). over p f c (suc q) ++ cond (p x) (f x ∷ []) []) (omega arith))
-  where
-    go : (b : Bool) (l : List ℤ) → over p f (suc c) (suc q) ≡ over p f c (suc q) ++ l → cond b (f q ∷ over p f (suc c) (suc q)) (over p f (suc c) (suc q)) ≡ cond b (f q ∷ over p f c (suc q)) (over p f c (suc q)) ++ l
-    go true l e = ap (λ (r : List ℤ). f q ∷ r) e
-    go false l e = e
 
 module _ (p : ℕ → Bool) (f : ℕ → ℤ) (q : ℕ) where
   more : over p f (q + 1) 0 ≡ over p f q 0 ++ cond (p q) (f q ∷ []) []
@@ -48,10 +39,6 @@ own-report p f (x ∷ xs) e = record { counted = refl; first = refl }
 -- they fit the list
 pub inside : {reports l : List ℤ} {count : ℕ} → Reports reports count l → count ≤ length reports
 inside {reports} {l} {count} r = omega (arith, r .counted, ap length (r .first), length-take count reports)
-
--- the card that relayed is put back
-pub put-back : (members held : List Bool) (q : ℕ) → may members q ≡ true → held ≡ set members q false → set held q true ≡ members
-put-back members held q t e = rw (e, set-set, ← t) (set-getD members q false)
 
 -- ---- a loop over the ten cards: the reports so far, of the cards before q that pass
 
@@ -97,20 +84,3 @@ module _ (R : Rule) (words : List ℤ) (members : List Bool) (r d k : ℕ) where
 -- the reports' majority, unwrapped
 pub decides : (R : Rule) {own wrapped m r : ℤ} {reports votes : List ℤ} {count : ℕ} → Reports reports count (wrapped ∷ votes) → wrapped ≡ R .wrap own → m ≡ majorityBy R (take count reports) → r ≡ R .unwrap m → r ≡ decided R own votes
 decides R {votes = votes} h e f g = g ∙ ap (R .unwrap) (f ∙ ap (majorityBy R) (h .first ∙ ap (λ (w : ℤ). w ∷ votes) e))
-
--- ---- slots
-
-pub room-less : (r k q : ℕ) → r + 1 ≤ 3 → k < room (r + 1) → q < 10 → below k q < room r
-room-less zero k q a b c = omega arith
-room-less (suc zero) k q a b c = omega arith
-room-less (suc (suc zero)) k q a b c = omega arith
-room-less (suc (suc (suc r))) k q a b c = absurd (omega arith)
-
-pub room-most : (r k : ℕ) → k < room r → k < 1111
-room-most zero k h = omega arith
-room-most (suc zero) k h = omega arith
-room-most (suc (suc zero)) k h = omega arith
-room-most (suc (suc (suc r))) k h = omega arith
-
-pub room-back : (r : ℕ) → (r ≡ 0 → ⊥) → room (r - 1 + 1) ≡ room r
-room-back r n = let e : r - 1 + 1 ≡ r = omega arith in ap room e

@@ -1,5 +1,4 @@
-pub mod Choices
-pub mod Over
+pub mod Longer
 pub mod Ways
 pub mod Votes
 pub mod Gather

@@ -5,15 +5,14 @@ use mathlib.Core.Bool.{Bool, false}
 use mathlib.Core.List.{List}
 use lib.Dec.{T}
 use lib.IntN.{ℤ}
-use lib.ListN.{length, getD, set, take}
+use lib.ListN.{length, set, take}
 use Rattle.words.specs.Rule.{Rule}
-use Rattle.paths.specs.Rack.{Rack}
-use Rattle.paths.specs.Slots.{slots, below, live}
-use Rattle.vote.specs.Vote.{at, over, decided}
-
--- card q may relay
-abbrev pub may : List Bool → ℕ → Bool
-may members q = getD members q false
+use Rattle.ground.specs.Lists.{at, over}
+use Rattle.settings.specs.Settings.{slots}
+use Rattle.settings.specs.declared.Settings.{Settings}
+use Rattle.paths.specs.Slots.{below, live, membersOf}
+use Rattle.paths.specs.Walk.{may, room}
+use Rattle.vote.specs.Vote.{decided}
 
 -- the vote at slot k of level d with r rounds left; a card that relays does not do so again
 unfoldable pub memberVote : Rule → List ℤ → List Bool → ℕ → ℕ → ℕ → ℤ
@@ -24,13 +23,6 @@ memberVote R words members (suc r) d k =
 -- the votes of the longer paths by the first c cards, with r rounds left for each
 abbrev pub membersVotes : Rule → List ℤ → List Bool → ℕ → ℕ → ℕ → ℕ → List ℤ
 membersVotes R words members r d k c = over (may members) (λ q. memberVote R words (set members q false) r (d + 1) (below k q)) c 0
-
--- the slots that leave room for r relays more
-abbrev pub room : ℕ → ℕ
-room zero = 1111
-room (suc zero) = 111
-room (suc (suc zero)) = 11
-room (suc (suc (suc r))) = 1
 
 -- what an instance is asked: the words of a whole book, all ten cards, at most three relays in all, and a slot with room for those left
 pub record Asked (words : List ℤ) (members : List Bool) (r d k : ℕ) : Type 0 where
@@ -44,8 +36,9 @@ pub record Reports (reports : List ℤ) (count : ℕ) (l : List ℤ) : Type 0 wh
   pub counted : count ≡ length l
   pub first : take count reports ≡ l
 
--- what the vote at a slot is asked: at most three rounds, a live slot, and the words of a whole book
-pub record Whole (S : Rack) (words : List ℤ) (k : ℕ) : Type 0 where
-  pub few : S .rounds ≤ 3
-  pub alive : T (live S k)
+-- what the vote at a slot is asked: at most three rounds, a live path with its members, and the words of a whole book
+pub record Whole (s : Settings) (words : List ℤ) (members : List Bool) (k : ℕ) : Type 0 where
+  pub few : s .rack .m ≤ 3
+  pub alive : T (live s k)
   pub whole : length words ≡ slots
+  pub here : members ≡ membersOf s k

@@ -1,25 +1,32 @@
 // Document 01, 'The vote': worked out afresh from the words.
-use paths::Settings;
-use paths::refusal;
+use ground::Told;
+use ground::refusal;
+use settings::Settings;
 use words::E;
 ghost use mathlib.Core.Path.{_≡_};
 ghost use mathlib.Core.List.{_∷_};
 ghost use Prim.Native.Nat.{_+_};
 ghost use lib.ListN.{length};
+ghost use Rattle.ground.specs.Checks.{verdict};
+ghost use Rattle.ground.specs.Answer.{ofTold};
+ghost use Rattle.ground.specs.Lists.{at};
 ghost use Rattle.words.specs.Rule.{omh};
-ghost use Rattle.paths.specs.Checks.{verdict};
-ghost use Rattle.paths.specs.Rack.{rackOf};
-ghost use Rattle.vote.specs.Vote.{at, vote};
+ghost use Rattle.settings.specs.Settings.{ruleOf};
+ghost use Rattle.vote.specs.Vote.{vote};
 ghost use Rattle.vote.specs.Members.{memberVote, membersVotes, Asked, Whole, Reports};
-ghost use Rattle.vote.specs.Asked.{votedOf, wordsChecks, slotChecks, voteAsked, answerAsked};
+ghost use Rattle.vote.specs.Asked.{wordsChecks, voteAsked, answerAsked};
 
-pub enum Voted {
-    Word(i32),
-    Refused(u8),
-}
+// An own report, and one from each of the ten cards.
+const REPORTS: usize = Settings::MAX_CARDS + 1;
 
 // The vote at slot k of level d with so many rounds left; `members` are the cards that may still relay.
-fn instance(words: &[i32], members: &mut [bool; 10], left: usize, d: usize, k: usize) -> i32
+fn instance(
+    words: &[i32],
+    members: &mut [bool; Settings::MAX_CARDS],
+    left: usize,
+    d: usize,
+    k: usize,
+) -> i32
     requires { ⌜ Asked (now words) (now members) left d k ⌝ }
     ensures { λ r. ⌜ (r ≡ memberVote omh (now (words .entry)) (now (members .entry)) left d k) × (now (members .exit) ≡ now (members .entry)) ⌝ }
 {
@@ -27,7 +34,7 @@ fn instance(words: &[i32], members: &mut [bool; 10], left: usize, d: usize, k: u
     if left == 0 {
         return own;
     }
-    let mut reports = [E; 11];
+    let mut reports = [E; REPORTS];
     reports[0] = words::wrap(own);
     let count = over_members(words, members, &mut reports, left - 1, d, k);
     words::unwrap(words::majority(&reports[..count]))
@@ -36,8 +43,8 @@ fn instance(words: &[i32], members: &mut [bool; 10], left: usize, d: usize, k: u
 // Puts the votes of the longer paths, by each member in turn, after the own report, and answers how many reports there are.
 fn over_members(
     words: &[i32],
-    members: &mut [bool; 10],
-    reports: &mut [i32; 11],
+    members: &mut [bool; Settings::MAX_CARDS],
+    reports: &mut [i32; REPORTS],
     left: usize,
     d: usize,
     k: usize,
@@ -47,7 +54,7 @@ fn over_members(
     ensures { λ r. ⌜ Reports (now (reports .exit)) r (at (now (reports .entry)) 0 ∷ membersVotes omh (now (words .entry)) (now (members .entry)) left d k 10) × (now (members .exit) ≡ now (members .entry)) ⌝ }
 {
     let mut count: usize = 1;
-    for q in 0..10 {
+    for q in 0..Settings::MAX_CARDS {
         if members[q] {
             members[q] = false;
             let vote = instance(words, members, left, d + 1, 10 * k + 1 + q);
@@ -59,65 +66,52 @@ fn over_members(
     count
 }
 
-// The vote at a live slot, of settings that are not refused.
-fn vote_of(s: Settings, words: &[i32], slot: usize) -> i32
-    requires { ⌜ Whole (rackOf s) (now words) slot ⌝ }
-    ensures { λ r. ⌜ r ≡ vote omh (rackOf s) (now (words .entry)) slot ⌝ }
+// The vote at a live slot, of settings that are not refused; `members` are the cards that may lengthen its path.
+fn vote_of(
+    s: Settings,
+    words: &[i32],
+    members: &mut [bool; Settings::MAX_CARDS],
+    slot: usize,
+) -> i32
+    requires { ⌜ Whole s (now words) (now members) slot ⌝ }
+    ensures { λ r. ⌜ r ≡ vote (ruleOf (s .rack)) s (now (words .entry)) slot ⌝ }
 {
     let d = paths::level_of(slot);
-    if s.p == s.t {
-        return words::read_at(d, words[slot]);
-    }
-    let mut members = paths::members(s, slot);
-    instance(words, &mut members, s.m - d, d, slot)
+    let left = paths::rounds_left(s, d);
+    instance(words, members, left, d, slot)
 }
 
 // The refusal number of a call over words; 0 for none.
-fn words_refused(n: usize, m: usize, t: usize, p: usize, words: &[i32]) -> u8
-    ensures { λ r. ⌜ r ≡ verdict (wordsChecks n m t p (now (words .entry))) ⌝ }
+fn words_refused(s: Settings, words: &[i32]) -> u8
+    ensures { λ r. ⌜ r ≡ verdict (wordsChecks s (now (words .entry))) ⌝ }
 {
-    let no = paths::settings_refused(n, m, t, p);
-    if no != 0 {
-        return no;
-    }
-    if words.len() != Settings::SLOTS {
-        return refusal::LONG;
-    }
-    0
-}
-
-// The refusal number of a call over words at a slot; 0 for none.
-fn slot_refused(n: usize, m: usize, t: usize, p: usize, words: &[i32], slot: usize) -> u8
-    ensures { λ r. ⌜ r ≡ verdict (slotChecks n m t p (now (words .entry)) slot) ⌝ }
-{
-    let no = words_refused(n, m, t, p, words);
-    if no != 0 {
-        return no;
-    }
-    if !paths::live_for(Settings { n, m, t, p }, slot) {
-        return refusal::PATH;
-    }
-    0
+    refusal::first(
+        settings::settings_refused(s),
+        refusal::when(words.len() != Settings::SLOTS, refusal::LONG),
+    )
 }
 
 // The vote at a slot.
-pub fn vote_at(n: usize, m: usize, t: usize, p: usize, words: &[i32], slot: usize) -> Voted
-    ensures { λ r. ⌜ r ≡ votedOf (voteAsked n m t p (now (words .entry)) slot) ⌝ }
+pub fn vote_at(s: Settings, words: &[i32], slot: usize) -> Told
+    ensures { λ r. ⌜ ofTold r ≡ voteAsked s (now (words .entry)) slot ⌝ }
 {
-    let no = slot_refused(n, m, t, p, words, slot);
+    let mut members = paths::may_relay(s);
+    let live = paths::live_in(s, &mut members, slot);
+    let no = refusal::first(words_refused(s, words), refusal::when(!live, refusal::PATH));
     if no != 0 {
-        return Voted::Refused(no);
+        return Told::Refused(no);
     }
-    Voted::Word(vote_of(Settings { n, m, t, p }, words, slot))
+    Told::Word(vote_of(s, words, &mut members, slot))
 }
 
 // The answer: the vote at slot 0.
-pub fn answer(n: usize, m: usize, t: usize, p: usize, words: &[i32]) -> Voted
-    ensures { λ r. ⌜ r ≡ votedOf (answerAsked n m t p (now (words .entry))) ⌝ }
+pub fn answer(s: Settings, words: &[i32]) -> Told
+    ensures { λ r. ⌜ ofTold r ≡ answerAsked s (now (words .entry)) ⌝ }
 {
-    let no = words_refused(n, m, t, p, words);
+    let no = words_refused(s, words);
     if no != 0 {
-        return Voted::Refused(no);
+        return Told::Refused(no);
     }
-    Voted::Word(vote_of(Settings { n, m, t, p }, words, 0))
+    let mut members = paths::may_relay(s);
+    Told::Word(vote_of(s, words, &mut members, 0))
 }

@@ -12,7 +12,7 @@ use mir.Val.{SFits}
 use Rattle.words.specs.Word.{kindOf, missing}
 use Rattle.words.specs.declared.Kind.{Kind}
 use Rattle.words.specs.declared.Kind.the-variants.{Ordinary, Missing, Bad}
-use Rattle.words.proofs.Bits.{back, back-is, lt-told}
+use Rattle.ground.proofs.Bits.{back, back-is, lt-told}
 
 -- what holds of each of the four numbers of wraps holds of all
 pub four : (P : ℕ → Type 0) → P 0 → P 1 → P 2 → P 3 → (w : ℕ) → w ≤ 3 → P w
@@ -66,7 +66,7 @@ unfolding kindOf
 below (pos n) h = cc h
 below (negsuc n) h = simp (lt-leb n 999999998 (omega (arith, ltb-true)))
 
-among : (x : ℤ) → ltZ x (negsuc 999999998) ≡ false → ltZ x (pos 1000000000) ≡ true → kindOf x ≡ Ordinary
+pub among : (x : ℤ) → ltZ x (negsuc 999999998) ≡ false → ltZ x (pos 1000000000) ≡ true → kindOf x ≡ Ordinary
 unfolding kindOf
 among (pos n) g h = simp (le-leb n 999999999 (omega (arith, ltb-true)))
 among (negsuc n) g h = simp (le-leb n 999999998 (omega (arith, ltb-false)))
@@ -75,7 +75,7 @@ few : (x : ℤ) → ltZ x (pos 1000000000) ≡ false → ltZ x (pos 1000000004) 
 few (pos n) g h = (ap pos (omega (arith, ltb-true, ltb-false)), omega (arith, ltb-true, ltb-false))
 few (negsuc n) g h = absurd (true≢false g)
 
-beyond : (x : ℤ) → ltZ x (pos 1000000004) ≡ false → kindOf x ≡ Bad
+pub beyond : (x : ℤ) → ltZ x (pos 1000000004) ≡ false → kindOf x ≡ Bad
 unfolding kindOf
 beyond (pos n) g = simp (lt-leb n 999999999 (omega (arith, ltb-false)), le-leb 1000000000 n (omega (arith, ltb-false)), lt-leb n 1000000003 (omega (arith, ltb-false)))
 beyond (negsuc n) g = cc g

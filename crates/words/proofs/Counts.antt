@@ -7,6 +7,7 @@ use native.Mathlib.Omega.{arith}
 use lib.IntN.{ℤ}
 use lib.ListN.{length}
 use borrow.Author.Tests.{ltb-true, lt-ltb}
+use Rattle.ground.proofs.Lists.{All}
 use Rattle.words.specs.Majority.{same, kept, occurs, overHalf, first, majority}
 use Rattle.words.proofs.Same.{same-eq, same-refl, same-ne, ne-same}
 
@@ -161,11 +162,6 @@ by-counts s e k l h = go (search s e k)
     go (no p q) = p ∙ sym (none-over s e l (λ v o. omega (arith, kept-same v, long, q v (lt-over (kept s k) v (omega (arith, kept-same v, long))))))
 
 -- ---- the majority is a word of the list, or the word for none
-
--- P holds of every word of a list
-abbrev pub All : (ℤ → Type 0) → List ℤ → Type 0
-All P [] = Unit {0}
-All P (x ∷ xs) = P x × All P xs
 
 first-all : (P : ℤ → Type 0) (f : ℤ → Bool) (none : ℤ) → P none → (l : List ℤ) → All P l → P (first f none l)
 unfolding first

@@ -1,7 +1,7 @@
 -- Each public function's contract fixes its answer: two answers that it allows are equal.
 use mathlib.Core.Path.{sym, _∙_}
 use lib.IntN.{ℤ}
-use Rattle.words.specs.Fixes.{Fixes}
+use Rattle.ground.specs.Fixes.{Fixes}
 use Rattle.words.specs.declared.Kind.{Kind}
 use Rattle.words.proofs.kind_of.Kinds as kind-of
 use Rattle.words.proofs.kind_of.Reads as kind-of-says

@@ -1,4 +1,3 @@
-pub mod Bits
 pub mod Same
 pub mod ByKind
 pub mod Counts

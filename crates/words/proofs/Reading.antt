@@ -1,19 +1,19 @@
 -- Laws of reading at a level, wrapping and unwrapping, and of the vote that they make.
 use Prim.Native.Nat.{ℕ, suc, _+_, _-_, _≤_, _<_}
 use mathlib.Core.Path.{_≡_, refl, sym, subst, ap, _∙_}
-use mathlib.Core.Bool.{Bool, true, false}
-use mathlib.Core.List.{List}
+use mathlib.Core.Bool.{Bool, true, false, true≢false}
 use mathlib.Core.Logic.{_⊎_, inl, inr}
 use native.Mathlib.Omega.{arith}
 use borrow.Author.Tests.{leb-true, leb-false, ltb-true, ltb-false, le-leb, lt-leb, lt-ltb}
 use lib.Dec.{leb, ltb}
-use lib.IntN.{ℤ, natAbs}
+use lib.IntN.{ℤ, pos, negsuc, natAbs}
+use lib.Signed.{ltZ}
+use mir.Syntax.{w32}
+use mir.Val.{SFits}
 use Rattle.words.specs.Word.{kindOf, missing, E, readAt, wrapped, unwrapped}
-use Rattle.words.specs.Majority.{same}
-use Rattle.words.specs.Rule.{omh, majorityBy}
 use Rattle.words.specs.declared.Kind.the-variants.{Ordinary, Bad}
-use Rattle.words.proofs.ByKind.{kind-missing, View, ordinary, wraps, bad, view, ordinary-not}
-use Rattle.words.proofs.Counts.{All, majority-all}
+use Rattle.ground.proofs.Bits.{back, back-is, lt-told}
+use Rattle.words.proofs.ByKind.{kind-missing, View, ordinary, wraps, bad, view, ordinary-not, among, beyond, told-below}
 
 -- ---- each operation on each kind
 
@@ -125,11 +125,46 @@ pub unwrap-reads : (d : ℕ) (x : ℤ) → Reads (suc d) x → Reads d (unwrappe
 unwrap-reads d x (as-ordinary e) = as-ordinary (ap kindOf (unwrap-ordinary x e) ∙ e)
 unwrap-reads d x (as-missing w h l e) = as-missing (w - 1) (omega arith) (omega arith) (ap unwrapped e ∙ unwrap-missing w h)
 
--- so does the unwrapped majority of words read at level d + 1
-pub vote-reads : (d : ℕ) (l : List ℤ) → All (Reads (suc d)) l → Reads d (unwrapped (majorityBy omh l))
-vote-reads d l a = unwrap-reads d _ (majority-all (Reads (suc d)) (same E) E l (reads-E (suc d) E refl) a)
-
 -- at level 0 it is ordinary or E
 pub read-0 : (x : ℤ) → Reads 0 x → (kindOf x ≡ Ordinary) ⊎ (x ≡ E)
 read-0 x (as-ordinary e) = inl e
 read-0 x (as-missing w h l e) = let q : w ≡ 0 = omega arith in inr (e ∙ ap missing q)
+
+-- ---- what a `match` over one range tells: it ends d above E, where d is the level, and 3 for a level over 3
+
+-- so it is 3 for a level that is none of 0, 1 and 2
+pub over-two : (l : ℕ) → (l ≡ 0 → ⊥) → (l ≡ 1 → ⊥) → (l ≡ 2 → ⊥) → 3 ≡ l - (l - 3)
+over-two l a b c = omega arith
+
+within-reads : (l d : ℕ) → d ≡ l - (l - 3) → (x : ℤ) → ltZ x (negsuc 999999998) ≡ false → ltZ x (pos (1000000001 + d)) ≡ true → readAt l x ≡ x
+within-reads l d q (pos n) g h = go (ltb n 1000000000) refl
+  where
+    go : (b : Bool) → ltb n 1000000000 ≡ b → readAt l (pos n) ≡ pos n
+    go true e = read-ordinary l _ (among (pos n) g e)
+    go false e =
+        let u = ltb-true n (1000000001 + d) h in
+        let v = ltb-false n 1000000000 e in
+        itself l _ (as-missing (n - 1000000000) (omega arith) (omega arith) (ap pos (omega arith)))
+within-reads l d q (negsuc n) g h = read-ordinary l _ (among (negsuc n) g refl)
+
+high-reads : (l d : ℕ) → d ≡ l - (l - 3) → (x : ℤ) → ltZ x (pos (1000000001 + d)) ≡ false → readAt l x ≡ E
+high-reads l d q (pos n) h = go (ltb n 1000000004) refl
+  where
+    go : (b : Bool) → ltb n 1000000004 ≡ b → readAt l (pos n) ≡ E
+    go true e =
+        let u = ltb-false n (1000000001 + d) h in
+        let v = ltb-true n 1000000004 e in
+        let w : n ≡ 1000000000 + (n - 1000000000) = omega arith in
+        ap (λ (k : ℕ). readAt l (pos k)) w ∙ read-too-far l (n - 1000000000) (omega arith) (omega arith)
+    go false e = read-bad l _ (beyond (pos n) e)
+high-reads l d q (negsuc n) h = absurd (true≢false h)
+
+module _ {x : ℤ} (f : SFits w32 x) (l : ℕ) where
+  pub told-low : ltZ (back x) (negsuc 999999998) ≡ true → E ≡ readAt l x
+  told-low h = sym (read-bad l x (told-below f h))
+
+  pub told-within : (d : ℕ) → d ≡ l - (l - 3) → ltZ (back x) (negsuc 999999998) ≡ false → ltZ (back x) (pos (1000000001 + d)) ≡ true → back x ≡ readAt l x
+  told-within d q g h = back-is f ∙ sym (within-reads l d q x (lt-told f _ g) (lt-told f _ h))
+
+  pub told-high : (d : ℕ) → d ≡ l - (l - 3) → ltZ (back x) (pos (1000000001 + d)) ≡ false → E ≡ readAt l x
+  told-high d q h = sym (high-reads l d q x (lt-told f _ h))

@@ -9,7 +9,7 @@ use mir.Syntax.{w32}
 use mir.Val.{ofZ, SFits}
 use borrow.Author.Tests.{eq-eqb, ne-eqb, eqb-true}
 use Rattle.words.specs.Majority.{same}
-use Rattle.words.proofs.Bits.{bits-eq}
+use Rattle.ground.proofs.Bits.{bits-eq}
 
 pub same-eq : (x y : ℤ) → same x y ≡ true → x ≡ y
 unfolding same

@@ -14,7 +14,7 @@ use mir.Val.{ofZ}
 use borrow.Author.Needs.{sfits-of}
 use borrow.Author.Tests.{lt-ltb, le-ltb}
 use Rattle.words.specs.Majority.{same, kept, occurs, overHalf, first}
-use Rattle.words.proofs.Bits.{back, back-is, bits-eq}
+use Rattle.ground.proofs.Bits.{back, back-is, bits-eq}
 use Rattle.words.proofs.Same.{eq-same, ne-same}
 use Rattle.words.proofs.Counts.{occurs-kept}
 

@@ -1,4 +1,3 @@
 pub mod Word
 pub mod Majority
 pub mod Rule
-pub mod Fixes

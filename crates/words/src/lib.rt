@@ -25,14 +25,27 @@ pub fn kind_of(word: i32) -> Kind
     }
 }
 
-// The word as it reads at a level.
+// The word as it reads at a level: ordinary, or missing with no more wraps than the level; one range for each level, so that no branch is taken for a word's kind.
 pub fn read_at(level: usize, word: i32) -> i32
     ensures { λ r. ⌜ r ≡ readAt level word ⌝ }
 {
-    match kind_of(word) {
-        Kind::Ordinary => word,
-        Kind::Missing(wraps) => { if wraps <= level { word } else { E } }
-        Kind::Bad => E,
+    match level {
+        0 => match word {
+            -999_999_999..=1_000_000_000 => word,
+            _ => E,
+        },
+        1 => match word {
+            -999_999_999..=1_000_000_001 => word,
+            _ => E,
+        },
+        2 => match word {
+            -999_999_999..=1_000_000_002 => word,
+            _ => E,
+        },
+        _ => match word {
+            -999_999_999..=1_000_000_003 => word,
+            _ => E,
+        },
     }
 }
 

@@ -3,21 +3,25 @@ use Prim.Native.Nat.{ℕ, _<_}
 use mathlib.Core.Path.{ap, ap₂, _∙_}
 use native.Mathlib.Omega.{arith}
 use borrow.Author.Needs.{needs, sfits-of}
-use denote.Ref.{now}
 use borrow.Fn.Kinds.{In}
 use borrow.Fn.PlainCycle.{Measures, is, falls, and}
+use denote.Ref.{now}
 use lib.IntN.{ℤ}
+use lib.ListN.{getD}
+use Rattle.ground.proofs.Bits.{back, back-is}
 use Rattle.words.specs.Word.{wrapped, readAt}
 use Rattle.words.specs.Rule.{omh}
-use Rattle.words.proofs.Bits.{back-is}
-use Rattle.paths.specs.Slots.{above, lastRelay}
-use Rattle.bench.specs.Exchange.{Exchange, exchange, dealt}
-use Rattle.bench.proofs.Dealing.{dealt-first, dealt-next}
+use Rattle.paths.specs.Slots.{level as level·}
+use Rattle.exchange.specs.Exchange.{Exchange, exchange, dealt}
+use Rattle.exchange.proofs.Dealing.{dealt-first, dealt-next}
+use Rattle.bench.specs.Dealing.{sentTo}
 use Rattle.bench.proofs.dealt_at.Reads as says
 use Rattle.bench.proofs.dealt_at.Kinds as kinds
 use Rattle.bench.proofs.+dealt_at.Lts-dealt_at as lts
 use Rattle.bench.proofs.relayed.Reads as relayed
 use Rattle.bench.proofs.sent_by.Reads as sent-by
+use Rattle.paths.proofs.above.Reads as above-says
+use Rattle.paths.proofs.last_relay.Reads as last-relay
 use Rattle.paths.proofs.level_of.Reads as level-of
 use Rattle.bench.proofs.+dealt_at.{statement}
 use Rattle.bench.proofs.+dealt_at.Tie.{close}
@@ -34,7 +38,7 @@ module _ (j : ℕ) where
   asked = and 2 kinds.ps (falls 2 kinds.ps _<_ μ-dealt-at j) says.Pre
 
   abbrev calls : lts.Claims
-  calls = (sent-by.Asked, sent-by.Learnt, asked, says.Post, level-of.Asked, level-of.Learnt, relayed.Asked, relayed.Learnt)
+  calls = (sent-by.Asked, sent-by.Learnt, last-relay.Asked, last-relay.Learnt, above-says.Asked, above-says.Learnt, asked, says.Post, level-of.Asked, level-of.Learnt, relayed.Asked, relayed.Learnt)
 
   read-sent-by : lts.Need-shared-slice-read-sent-by calls given says.Post
   read-sent-by c = let given = c .before .before .before .pre .1 .0 in omega (arith, given .sender, given .statuses-long)
@@ -43,24 +47,31 @@ module _ (j : ℕ) where
   sent-by-requires c κs = let given = c .before .before .before .pre .1 in (given .0 .table-long, given .1, given .2)
 
   returns : lts.Need-returns calls given says.Post
-  returns c n m =
+  returns c rack =
       let zero = c .before .before in
       let start = zero .before .before in
       let a = start .args in
-      dealt-first omh (exchange n m (a .t) (a .x) (now (a .statuses)) (now (a .table))) (a .k) (a .p) (zero .if1 .taken) (back-is (start .fits .x))
+      dealt-first omh (exchange (record { rack = rack; t = a .t }) (a .x) (now (a .statuses)) (now (a .table))) (a .k) (a .p) (zero .if1 .taken) (back-is (start .fits .x))
       (back-is (sfits-of (c .sent-by .ok)) ∙ c .sent-by .ensures)
 
-  sub-q : lts.Need-sub-q calls given says.Post
-  sub-q c = omega arith
+  last-relay-requires : lts.Need-last-relay-requires calls given says.Post
+  last-relay-requires c κs = search needs
 
-  sub-above : lts.Need-sub-above calls given says.Post
-  sub-above c = omega arith
+  above-requires : lts.Need-above-requires calls given says.Post
+  above-requires c κs = search needs
 
   dealt-at-requires : lts.Need-dealt-at-requires calls given says.Post
-  dealt-at-requires c κs = let given = c .before .before .pre in (omega arith, (given .1 .0, omega arith, omega arith))
+  dealt-at-requires c κs =
+      let relay = c .before in
+      let other = relay .before in
+      let pre = other .before .before .pre in
+      let up = c .above .ensures in
+      (omega (arith, up, other .if1 .left), (pre .1 .0, omega (arith, up, pre .1 .1), omega (arith, relay .last-relay .ensures)))
 
   read-sent-by-2 : lts.Need-shared-slice-read-sent-by-2 calls given says.Post
-  read-sent-by-2 c = omega (arith, c .before .before .before .before .pre .1 .0 .statuses-long)
+  read-sent-by-2 c =
+      let relay = c .before .before .before in
+      omega (arith, relay .last-relay .ensures, relay .before .before .before .pre .1 .0 .statuses-long)
 
   level-of-requires : lts.Need-level-of-requires calls given says.Post
   level-of-requires c κs = search needs
@@ -69,24 +80,30 @@ module _ (j : ℕ) where
   relayed-requires c κs = search needs
 
   sent-by-requires-2 : lts.Need-sent-by-requires-2 calls given says.Post
-  sent-by-requires-2 c κs = let given = c .before .before .before .before .before .before .pre .1 in (given .0 .table-long, given .1, given .2)
+  sent-by-requires-2 c κs = let given = c .before .before .before .before .before .before .before .before .pre .1 in (given .0 .table-long, given .1, given .2)
 
   returns-2 : lts.Need-returns-2 calls given says.Post
-  returns-2 c n m =
+  returns-2 c rack =
       let relay = c .before in
       let level = relay .before in
       let word = level .before .before in
-      let other = word .before in
+      let up = word .before in
+      let last = up .before in
+      let other = last .before in
       let start = other .before .before in
       let a = start .args in
-      let X : ℤ → Exchange = λ x. exchange n m (a .t) x (now (a .statuses)) (now (a .table)) in
+      let X : ℤ → Exchange = λ x. exchange (record { rack = rack; t = a .t }) x (now (a .statuses)) (now (a .table)) in
       dealt-next omh (X (a .x)) (a .k) (a .p) (omega (arith, other .if1 .left)) (start .pre .1 .1)
       (back-is (sfits-of (relay .relayed .ok))
       ∙ relay .relayed .ensures
-      ∙ ap wrapped (ap₂ readAt (level .level-of .ensures) (back-is (sfits-of (word .dealt-at .ok)) ∙ word .dealt-at .ensures n m ∙ ap (λ (x : ℤ). dealt omh (X x) (above (a .k)) (lastRelay (a .k))) (back-is (start .fits .x)))))
-      (back-is (sfits-of (c .sent-by2 .ok)) ∙ c .sent-by2 .ensures)
+      ∙ ap wrapped (ap₂ readAt (level .level-of .ensures ∙ ap level· (up .above .ensures))
+      (back-is (sfits-of (word .dealt-at .ok))
+      ∙ word .dealt-at .ensures rack
+      ∙ ap (λ (x : ℤ). dealt omh (X x) (up .above .result) (last .last-relay .result)) (back-is (start .fits .x))
+      ∙ ap₂ (dealt omh (X (a .x))) (up .above .ensures) (last .last-relay .ensures))))
+      (back-is (sfits-of (c .sent-by2 .ok)) ∙ c .sent-by2 .ensures ∙ ap (λ (q : ℕ). sentTo (getD (now (a .statuses)) q 0) (back (relay .relayed .result)) (now (a .table)) (a .k) (a .p)) (last .last-relay .ensures))
 
 pub +dealt-at-spec : {M : Type 1} → statement M
 +dealt-at-spec =
     close μ-dealt-at
-    λ j. lts.spec (calls j) (given j) says.Post (read-sent-by j) (sent-by-requires j) (returns j) (sub-q j) (sub-above j) (dealt-at-requires j) (read-sent-by-2 j) (level-of-requires j) (relayed-requires j) (sent-by-requires-2 j) (returns-2 j)
+    λ j. lts.spec (calls j) (given j) says.Post (read-sent-by j) (sent-by-requires j) (returns j) (last-relay-requires j) (above-requires j) (dealt-at-requires j) (read-sent-by-2 j) (level-of-requires j) (relayed-requires j) (sent-by-requires-2 j) (returns-2 j)

@@ -1,72 +1,81 @@
--- `bench::all_answers` meets its contract: the verdict decides; all words are dealt, and each card's voted over.
-use mathlib.Core.Path.{_≡_, refl, sym, ap, _∙_}
+-- `bench::all_answers` meets its contract: the verdict decides.
+use mathlib.Core.Path.{_≡_, sym, ap, ap₂, _∙_}
+use mathlib.Core.Bool.{Bool, _&&_, and-eq-true-iff}
 use borrow.Author.Needs.{needs}
+use borrow.Author.Tests.{eqb-true}
 use denote.Ref.{now}
+use lib.Dec.{eqb}
 use lib.IntN.{ℤ}
-use Rattle.words.specs.Rule.{omh}
-use Rattle.words.proofs.Bits.{back, back-is}
-use Rattle.paths.specs.Checks.{verdict}
-use Rattle.bench.specs.Exchange.{exchange, answersOf}
+use lib.ListN.{length}
+use Rattle.ground.specs.Checks.{verdict}
+use Rattle.ground.proofs.Bits.{back-is}
+use Rattle.ground.proofs.Answers.{outcome-refused, outcome-done}
+use Rattle.ground.proofs.Verdicts.{joined}
+use Rattle.settings.specs.Settings.{ruleOf, turnChecks}
+use Rattle.exchange.specs.Exchange.{exchange}
+use Rattle.exchange.specs.Asked.{inputsLong, valueChecks}
+use Rattle.bench.specs.Bench.{answersOf}
 use Rattle.bench.specs.Asked.{answersChecks, answersAsked}
-use Rattle.bench.proofs.Asking.{AllAsked, all-asked, all-refused, all-done}
-use Rattle.bench.proofs.Slotwise.{answers-are}
+use Rattle.bench.proofs.Asking.{turn-asked, deals}
 use Rattle.bench.proofs.all_answers.Statement.{statement}
 use Rattle.bench.proofs.all_answers.Tie as tie
 
-answers-refused-requires : tie.Need-answers-refused-requires
-answers-refused-requires c κs = search needs
+inputs-long-requires : tie.Need-inputs-long-requires
+inputs-long-requires c κs = search needs
 
-told : (c : tie.After-answers-refused) → let a = c .before .before .before .args in c .answers-refused .result ≡ verdict (answersChecks (a .n) (a .m) (a .t) (a .x) (now (a .statuses)) (now (a .table)) (now (a .answers)))
+turn-refused-requires : tie.Need-turn-refused-requires
+turn-refused-requires c κs = search needs
+
+values-refused-requires : tie.Need-values-refused-requires
+values-refused-requires c κs = search needs
+
+first-requires : tie.Need-first-requires
+first-requires c κs = search needs
+
+told : (c : tie.After-first) → let a = c .before .before .before .before .before .args in c .first .result ≡ verdict (answersChecks (a .turn) (a .x) (now (a .statuses)) (now (a .table)) (now (a .answers)))
 told c =
-    let start = c .before .before .before in
+    let values = c .before in
+    let turn = values .before in
+    let start = turn .before .before .before in
     let a = start .args in
-    c .answers-refused .ensures ∙ ap (λ (x : ℤ). verdict (answersChecks (a .n) (a .m) (a .t) x (now (a .statuses)) (now (a .table)) (now (a .answers)))) (back-is (start .fits .x))
-
-same-length : tie.Need-same-length
-same-length c = search needs
+    joined (turnChecks (a .turn)) _ tt (c .first .ensures) (turn .turn-refused .ensures)
+    (values .values-refused .ensures
+    ∙ ap₂ (λ (x : ℤ) (b : Bool). verdict (valueChecks (a .turn .rack) x (now (a .statuses)) (b && eqb (length (now (a .answers))) 10))) (back-is (start .fits .x)) (turn .before .inputs-long .ensures))
 
 returns : tie.Need-returns
 unfolding answersAsked
-returns c = all-refused (told (c .before)) (c .if1 .taken) _ _
-
--- what a call that is not refused is given
-asked : (c : tie.Else1) → let a = c .before .before .before .before .args in AllAsked (a .n) (a .m) (a .t) (now (a .statuses)) (now (a .table)) (now (a .answers))
-asked c =
-    let a = c .before .before .before .before .args in
-    all-asked (a .n) (a .m) (a .t) (a .x) (now (a .statuses)) (now (a .table)) (now (a .answers)) (sym (told (c .before)) ∙ c .if1 .left)
-
-slice-aggregate-deal-all : tie.Need-slice-aggregate-deal-all
-slice-aggregate-deal-all c = search needs
-
-deal-all-requires : tie.Need-deal-all-requires
-deal-all-requires c κs = let given = asked (c .before) in (given .dealing, given .few, given .deep, refl)
-
-slice-aggregate-answer-all : tie.Need-slice-aggregate-answer-all
-slice-aggregate-answer-all c = search needs
+returns c = outcome-refused (told (c .before)) (c .if1 .taken) _ _
 
 answer-all-requires : tie.Need-answer-all-requires
 answer-all-requires c κs =
-    let deal = c .before .before .before in
-    let given = asked (deal .before .before) in
-    (given .settings, deal .deal-all .kept .1 .1 .1 .1 .1 .1 .0, given .ten)
+    let none = c .before in
+    let a = none .before .before .before .before .before .before .args in
+    let given = turn-asked (a .turn) (a .x) (now (a .statuses)) _ (sym (told (none .before)) ∙ none .if1 .left) in
+    let long = and-eq-true-iff (inputsLong (now (a .statuses)) (now (a .table))) (eqb (length (now (a .answers))) 10) .0 (given .1) in
+    (deals (a .turn) (now (a .statuses)) (now (a .table)) (given .0) (long .0), given .0 .rack .deep, eqb-true _ 10 (long .1))
 
-same-length-2 : tie.Need-same-length-2
-same-length-2 c = search needs
+same-length : tie.Need-same-length
+same-length c = search needs
 
 returns-2 : tie.Need-returns-2
 unfolding answersAsked
 returns-2 c =
     let call = c .before in
-    let deal = call .before .before .before .before in
-    let none = deal .before .before in
-    let start = none .before .before .before .before in
+    let none = call .before .before in
+    let start = none .before .before .before .before .before .before in
     let a = start .args in
-    all-done (told (none .before)) (none .if1 .left) _
-    (call .answer-all .ensures
-    ∙ answers-are omh (exchange (a .n) (a .m) (a .t) (back (a .x)) (now (a .statuses)) (now (a .table))) _ (deal .deal-all .ensures) (now (a .answers))
-    ∙ ap (λ (x : ℤ). answersOf omh (exchange (a .n) (a .m) (a .t) x (now (a .statuses)) (now (a .table))) (now (a .answers))) (back-is (start .fits .x)))
+    outcome-done (told (none .before)) (none .if1 .left) _
+    (call .answer-all .ensures ∙ ap (λ (x : ℤ). answersOf (ruleOf (a .turn .rack)) (exchange (a .turn) x (now (a .statuses)) (now (a .table))) (now (a .answers))) (back-is (start .fits .x)))
 
 pub all-answers-spec : {M : Type 1} → statement M
 all-answers-spec =
     tie.close
-    (tie.spec answers-refused-requires same-length returns slice-aggregate-deal-all deal-all-requires slice-aggregate-answer-all answer-all-requires same-length-2 returns-2)
+    (tie.spec
+    inputs-long-requires
+    turn-refused-requires
+    values-refused-requires
+    first-requires
+    returns
+    answer-all-requires
+    same-length
+    returns-2)

@@ -1,79 +1,53 @@
 -- `bench::answer_all` meets its contract: the places before `p` hold their cards' answers.
-use Prim.Native.Nat.{ℕ, _-_, _≤_, _<_}
-use mathlib.Core.Path.{refl, sym, ap, _∙_}
+use Prim.Native.Nat.{ℕ, _-_}
+use mathlib.Core.Path.{sym, ap, _∙_}
 use mathlib.Core.Bool.{cond}
 use mathlib.Core.List.{List}
+use mathlib.Core.Logic.{⊎-elim}
 use native.Mathlib.Omega.{arith}
-use borrow.Author.Needs.{sfits-of}
-use borrow.Author.Tests.{lt-ltb, le-ltb, lt-leb}
+use borrow.Author.Needs.{needs, sfits-of}
 use denote.Ref.{now}
-use lib.Dec.{ltb}
+use mir.Syntax.{w32}
+use mir.Val.{toZ}
 use lib.IntN.{ℤ}
-use lib.ListN.{length}
-use Rattle.words.specs.Rule.{omh}
-use Rattle.words.proofs.Bits.{back-is}
-use Rattle.paths.specs.Rack.{rack, roundsChecks, senderChecks}
-use Rattle.paths.proofs.Verdicts.{none-next, passed-lists, rounds-good}
-use Rattle.vote.specs.Vote.{at, vote}
-use Rattle.bench.specs.Dealing.{cardVote}
-use Rattle.bench.proofs.Places.{chosen-yes, chosen-no, Passed, passed-none, passed-set, passed-all}
-use Rattle.bench.proofs.Slotwise.{own-long, own-part}
+use Rattle.ground.specs.Lists.{at}
+use Rattle.ground.proofs.Bits.{back-is}
+use Rattle.ground.proofs.Bools.{chosen-yes, chosen-no}
+use Rattle.ground.proofs.Lists.{Passed, passed-none, passed-set, passed-same, passed-all}
+use Rattle.settings.specs.Settings.{fits, ruleOf}
+use Rattle.settings.specs.declared.Turn.{Turn}
+use Rattle.exchange.specs.Exchange.{exchange, answerOf}
+use Rattle.bench.specs.Bench.{answersOf}
 use Rattle.bench.proofs.answer_all.Statement.{statement}
 use Rattle.bench.proofs.answer_all.Tie as tie
 
 -- what place p holds at the end
-abbrev goal : ℕ → ℕ → ℕ → List ℤ → List ℤ → ℕ → ℤ
-goal n m t words before p = cond (ltb p n) (cardVote omh (rack n m t p) words) (at before p)
+abbrev goal : Turn → ℤ → List ℕ → List ℤ → List ℤ → ℕ → ℤ
+goal turn x statuses words before p = cond (fits (turn .rack) p) (answerOf (ruleOf (turn .rack)) (exchange turn x statuses words) p) (at before p)
 
 abbrev Inv-loop : tie.InvT-loop
-Inv-loop n m t words answers₀ p₀ answers p = (p ≤ n) × Passed 10 (goal n m t words answers₀) answers₀ p answers
+Inv-loop turn x statuses table answers₀ rack p₀ answers p = Passed 10 (goal turn (toZ w32 x) statuses table answers₀) answers₀ p answers
 
 abbrev μ-loop : tie.MeasureT-loop
-μ-loop n m t words answers₀ p₀ answers p = n - p
+μ-loop turn x statuses table answers₀ rack p₀ answers p = 10 - p
 
 loop-holds : tie.Need-loop-holds Inv-loop μ-loop
-loop-holds c = (omega arith, passed-none _ _ (c .pre .2))
+loop-holds c = passed-none _ _ (c .before .before .pre .2)
 
--- a turn is at one of the ten cards
-inside : (c : tie.In-loop Inv-loop μ-loop) → c .before .loop .p < 10
-inside c =
-    let start = c .before .before in
-    let a = start .args in
-    omega (arith, c .loop-test .taken, rounds-good (a .n) (a .m) (passed-lists (roundsChecks (a .n) (a .m)) tt _ (start .pre .0) .0) .0)
+fits-requires : tie.Need-fits-requires Inv-loop μ-loop
+fits-requires c κs = search needs
 
-mul-start : tie.Need-mul-start Inv-loop μ-loop
-mul-start c = omega (arith, inside c)
+dealt-answer-requires : tie.Need-dealt-answer-requires Inv-loop μ-loop
+dealt-answer-requires c κs =
+    let turn = c .before .before in
+    let pre = turn .before .before .before .before .pre in
+    (pre .0, pre .1, turn .loop-test .taken)
 
-add-end : tie.Need-add-end Inv-loop μ-loop
-add-end c = omega (arith, inside c)
-
-mul-answered : tie.Need-mul-answered Inv-loop μ-loop
-mul-answered c = omega (arith, inside c)
-
-sub-answered : tie.Need-sub-answered Inv-loop μ-loop
-sub-answered c = omega arith
-
-part-answered-start : tie.Need-part-answered-start Inv-loop μ-loop
-part-answered-start c = omega arith
-
-part-answered-end : tie.Need-part-answered-end Inv-loop μ-loop
-part-answered-end c = omega (arith, inside c, c .before .before .pre .1)
-
-answered-requires : tie.Need-answered-requires Inv-loop μ-loop
-answered-requires c κs =
-    let turn = c .before in
-    let start = turn .before .before in
-    let a = start .args in
-    let p = turn .before .loop .p in (
-      sym (none-next (senderChecks (a .n) (a .m) (a .t)) tt 4 refl (start .pre .0) (lt-leb (a .n) p (turn .loop-test .taken))),
-      ap length (own-part p (now (a .words))) ∙ own-long p (now (a .words)) (start .pre .1) (inside turn),
-    )
-
-mul-t17 : tie.Need-mul-t17 Inv-loop μ-loop
-mul-t17 c = omega (arith, inside (c .before .before))
+mul-t12 : tie.Need-mul-t12 Inv-loop μ-loop
+mul-t12 c = omega arith
 
 slice-set-from-answers : tie.Need-slice-set-from-answers Inv-loop μ-loop
-slice-set-from-answers c = omega (arith, inside (c .before .before), c .before .before .before .loop .inv .1 .long)
+slice-set-from-answers c = let turn = c .before .before .before in omega (arith, turn .loop-test .taken, turn .before .loop .inv .long)
 
 add-p : tie.Need-add-p Inv-loop μ-loop
 add-p c = omega arith
@@ -83,21 +57,39 @@ loop-less c = omega arith
 
 loop-again : tie.Need-loop-again Inv-loop μ-loop
 loop-again c =
-    let turn = c .before .before in
-    let loop = turn .before in
-    let a = loop .before .args in
-    let p = loop .loop .p in (
-      omega arith,
-      passed-set (loop .loop .inv .1) (inside turn) (back-is (sfits-of (c .answered .ok)) ∙ c .answered .ensures ∙ ap (λ (l : List ℤ). vote omh (rack (a .n) (a .m) (a .t) p) l 0) (own-part p (now (a .words))) ∙ chosen-yes _ _ (lt-ltb p (a .n) (turn .loop-test .taken))) refl,
-    )
+    let call = c .before in
+    let turn = call .before in
+    let inv = turn .before .loop .inv in
+    ⊎-elim
+    (λ w. passed-set inv (turn .loop-test .taken) (back-is (sfits-of (w .1 .ok)) ∙ w .1 .ensures ∙ chosen-yes _ _ (sym (call .fits2 .ensures) ∙ w .0 .taken)) (w .2))
+    (λ w. passed-same inv (turn .loop-test .taken) (chosen-no _ _ (sym (call .fits2 .ensures) ∙ w .0 .left)) (w .1))
+    (c .if1 .came)
 
 same-length : tie.Need-same-length Inv-loop μ-loop
-same-length c = c .before .loop .inv .1 .long ∙ sym (c .before .before .pre .2)
+same-length c = let loop = c .before in loop .loop .inv .long ∙ sym (loop .before .before .before .pre .2)
 
 returns : tie.Need-returns Inv-loop μ-loop
-returns c = passed-all (c .before .loop .inv .1) (λ j h g. chosen-no _ _ (le-ltb j _ (omega (arith, c .loop-test .left))))
+unfolding answersOf
+returns c =
+    let loop = c .before in
+    let start = loop .before .before .before in
+    let a = start .args in
+    passed-all (loop .loop .inv) (λ j h g. absurd (omega (arith, c .loop-test .left)))
+    ∙ ap (λ (x : ℤ). answersOf (ruleOf (a .turn .rack)) (exchange (a .turn) x (now (a .statuses)) (now (a .table))) (now (a .answers))) (back-is (start .fits .x))
 
 pub answer-all-spec : {M : Type 1} → statement M
 answer-all-spec =
     tie.close
-    (tie.spec Inv-loop μ-loop loop-holds mul-start add-end mul-answered sub-answered part-answered-start part-answered-end answered-requires mul-t17 slice-set-from-answers add-p loop-less loop-again same-length returns)
+    (tie.spec
+    Inv-loop
+    μ-loop
+    loop-holds
+    fits-requires
+    dealt-answer-requires
+    mul-t12
+    slice-set-from-answers
+    add-p
+    loop-less
+    loop-again
+    same-length
+    returns)

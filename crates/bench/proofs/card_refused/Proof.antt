@@ -1,32 +1,33 @@
--- `bench::card_refused` meets its contract: the settings' verdict, then that on the values.
+-- `bench::card_refused` meets its contract: the settings' verdict, then what the exchange is given.
 use mathlib.Core.Path.{ap, _∙_}
 use borrow.Author.Needs.{needs}
 use denote.Ref.{now}
 use lib.IntN.{ℤ}
-use Rattle.words.proofs.Bits.{back-is}
-use Rattle.paths.specs.Checks.{verdict}
-use Rattle.paths.specs.Rack.{settingsChecks}
-use Rattle.paths.proofs.Verdicts.{still-refused, rest-says}
-use Rattle.bench.specs.Asked.{valueChecks}
+use Rattle.ground.specs.Checks.{verdict}
+use Rattle.ground.proofs.Bits.{back-is}
+use Rattle.ground.proofs.Verdicts.{joined}
+use Rattle.settings.specs.Settings.{settingsChecks}
+use Rattle.exchange.specs.Asked.{valueChecks}
 use Rattle.bench.proofs.card_refused.Statement.{statement}
 use Rattle.bench.proofs.card_refused.Tie as tie
 
 settings-refused-requires : tie.Need-settings-refused-requires
 settings-refused-requires c κs = search needs
 
-returns : tie.Need-returns
-returns c = let a = c .before .before .before .args in still-refused (settingsChecks (a .n) (a .m) (a .t) (a .p)) tt _ (c .before .settings-refused .ensures) (c .if1 .taken)
-
 values-refused-requires : tie.Need-values-refused-requires
-values-refused-requires c κs = c .before .before .before .pre
+values-refused-requires c κs = search needs
 
-returns-2 : tie.Need-returns-2
-returns-2 c =
-    let v = c .before .before in
-    let start = v .before .before in
+first-requires : tie.Need-first-requires
+first-requires c κs = search needs
+
+returns : tie.Need-returns
+returns c =
+    let values = c .before in
+    let start = values .before .before .before in
     let a = start .args in
-    rest-says (settingsChecks (a .n) (a .m) (a .t) (a .p)) tt _ (v .settings-refused .ensures) (c .before .if1 .left)
-    (c .values-refused .ensures ∙ ap (λ (x : ℤ). verdict (valueChecks (a .n) x (now (a .statuses)) (a .long))) (back-is (start .fits .x)))
+    joined (settingsChecks (a .s)) _ tt (c .first .ensures) (values .before .settings-refused .ensures)
+    (values .values-refused .ensures ∙ ap (λ (x : ℤ). verdict (valueChecks (a .s .rack) x (now (a .statuses)) (a .long))) (back-is (start .fits .x)))
 
 pub card-refused-spec : {M : Type 1} → statement M
-card-refused-spec = tie.close (tie.spec settings-refused-requires returns values-refused-requires returns-2)
+card-refused-spec =
+    tie.close (tie.spec settings-refused-requires values-refused-requires first-requires returns)

@@ -1,35 +1,47 @@
 -- `bench::fill` meets its contract: the verdict decides; the words are dealt, and the book refilled.
 use mathlib.Core.Path.{_≡_, sym, ap, _∙_}
-use native.Mathlib.Omega.{arith}
+use mathlib.Core.Bool.{Bool, _&&_}
 use borrow.Author.Needs.{needs}
 use denote.Ref.{now}
 use lib.IntN.{ℤ}
-use Rattle.words.specs.Rule.{omh}
-use Rattle.words.proofs.Bits.{back-is}
-use Rattle.paths.specs.Checks.{verdict}
-use Rattle.book.specs.Asked.{bookOf}
-use Rattle.book.proofs.Outcomes.{outcome-refused}
-use Rattle.bench.specs.Exchange.{exchange}
-use Rattle.bench.specs.Dealing.{dealtOver}
-use Rattle.bench.specs.Asked.{inputsLong, fillChecks}
-use Rattle.bench.proofs.Asking.{both, ten-statuses, deals, card-asked, card-verdict}
-use Rattle.bench.proofs.Filling.{book-whole, filling}
+use Rattle.ground.specs.Checks.{verdict}
+use Rattle.ground.proofs.Bits.{back-is}
+use Rattle.ground.proofs.Answers.{outcome-refused}
+use Rattle.settings.specs.Settings.{ruleOf, turnOf}
+use Rattle.book.specs.Book.{bookOf, sized}
+use Rattle.exchange.specs.Exchange.{exchange}
+use Rattle.bench.specs.Bench.{dealtOver}
+use Rattle.bench.specs.Asked.{fillChecks, fillAsked}
+use Rattle.bench.proofs.Asking.{deals, own-card, card-verdict}
+use Rattle.bench.proofs.Filling.{fill-asked, filling}
 use Rattle.bench.proofs.fill.Statement.{statement}
 use Rattle.bench.proofs.fill.Tie as tie
 
-book-long-requires : tie.Need-book-long-requires
-book-long-requires c κs = search needs
+inputs-long-requires : tie.Need-inputs-long-requires
+inputs-long-requires c κs = search needs
 
 card-refused-requires : tie.Need-card-refused-requires
-card-refused-requires c κs e =
-    let a = c .before .before .before .before .args in
-    ten-statuses (now (a .statuses)) (now (a .table)) (both (inputsLong (now (a .statuses)) (now (a .table))) _ (sym (c .book-long .ensures) ∙ e) .0)
+card-refused-requires c κs = search needs
 
-told : (c : tie.After-card-refused) → let a = c .before .before .before .before .before .args in c .card-refused .result ≡ verdict (fillChecks (a .n) (a .m) (a .t) (a .x) (now (a .statuses)) (now (a .table)) (a .p) (bookOf (now (a .words)) (now (a .votes))))
+told : (c : tie.After-card-refused) → let a = c .before .before .before .args in c .card-refused .result ≡ verdict (fillChecks (a .s) (a .x) (now (a .statuses)) (now (a .table)) (bookOf (now (a .words)) (now (a .votes))))
 told c =
-    let start = c .before .before .before .before .before in
+    let start = c .before .before .before in
     let a = start .args in
-    card-verdict (a .n) (a .m) (a .t) (a .p) (now (a .statuses)) (start .fits .x) (c .before .book-long .ensures) (c .card-refused .ensures)
+    card-verdict (a .s) (now (a .statuses)) (start .fits .x) (ap (λ (b : Bool). b && sized (bookOf (now (a .words)) (now (a .votes)))) (c .before .inputs-long .ensures)) (c .card-refused .ensures)
+
+returns : tie.Need-returns
+unfolding fillAsked
+returns c = outcome-refused (told (c .before)) (c .if1 .taken) _ _
+
+deal-requires : tie.Need-deal-requires
+deal-requires c κs =
+    let none = c .before in
+    let a = none .before .before .before .before .args in
+    let given = fill-asked (a .s) (a .x) (now (a .statuses)) (now (a .table)) (bookOf (now (a .words)) (now (a .votes))) (sym (told (none .before)) ∙ none .if1 .left) in
+    (deals _ (now (a .statuses)) (now (a .table)) (given .0 .turn) (given .1), given .0 .turn .rack .deep, own-card (a .s) (given .0), given .2 .words-long)
+
+refill-requires : tie.Need-refill-requires
+refill-requires c κs = search needs
 
 same-length : tie.Need-same-length
 same-length c = search needs
@@ -37,42 +49,26 @@ same-length c = search needs
 same-length-2 : tie.Need-same-length-2
 same-length-2 c = search needs
 
-returns : tie.Need-returns
-returns c = outcome-refused (told (c .before)) (c .if1 .taken) _ _ _
-
-deal-requires : tie.Need-deal-requires
-deal-requires c κs =
-    let none = c .before in
-    let a = none .before .before .before .before .before .before .args in
-    let z = sym (told (none .before)) ∙ none .if1 .left in
-    let card = card-asked (a .n) (a .m) (a .t) (a .p) (a .x) (now (a .statuses)) _ z in (
-      deals (now (a .statuses)) (now (a .table)) (card .0 .few) (card .0 .sender) (both (inputsLong (now (a .statuses)) (now (a .table))) _ (card .1) .0),
-      card .0 .deep,
-      omega (arith, card .0 .own, card .0 .few),
-      book-whole (a .n) (a .m) (a .t) (a .x) (now (a .statuses)) (now (a .table)) (a .p) (now (a .words)) (now (a .votes)) z .words-long,
-    )
-
-refill-requires : tie.Need-refill-requires
-refill-requires c κs = search needs
-
-same-length-3 : tie.Need-same-length-3
-same-length-3 c = search needs
-
-same-length-4 : tie.Need-same-length-4
-same-length-4 c = search needs
-
 returns-2 : tie.Need-returns-2
 returns-2 c =
     let refill = c .before in
     let deal = refill .before .before .before .before in
     let none = deal .before .before in
-    let start = none .before .before .before .before .before .before in
+    let start = none .before .before .before .before in
     let a = start .args in
     refill .refill .ensures
-    ∙ filling (a .n) (a .m) (a .t) (a .x) (now (a .statuses)) (now (a .table)) (a .p) (now (a .words)) (now (a .votes)) (sym (told (none .before)) ∙ none .if1 .left)
-    (deal .deal .ensures ∙ ap (λ (x : ℤ). dealtOver omh (exchange (a .n) (a .m) (a .t) x (now (a .statuses)) (now (a .table))) (a .p) (now (a .words))) (back-is (start .fits .x)))
+    ∙ filling (a .s) (a .x) (now (a .statuses)) (now (a .table)) (bookOf (now (a .words)) (now (a .votes))) (sym (told (none .before)) ∙ none .if1 .left)
+    (deal .deal .ensures ∙ ap (λ (x : ℤ). dealtOver (ruleOf (a .s .rack)) (exchange (turnOf (a .s)) x (now (a .statuses)) (now (a .table))) (a .s .p) (now (a .words))) (back-is (start .fits .x)))
 
 pub fill-spec : {M : Type 1} → statement M
 fill-spec =
     tie.close
-    (tie.spec book-long-requires card-refused-requires same-length same-length-2 returns deal-requires refill-requires same-length-3 same-length-4 returns-2)
+    (tie.spec
+    inputs-long-requires
+    card-refused-requires
+    returns
+    deal-requires
+    refill-requires
+    same-length
+    same-length-2
+    returns-2)

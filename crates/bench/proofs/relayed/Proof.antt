@@ -2,7 +2,7 @@
 use mathlib.Core.Path.{ap, _∙_}
 use borrow.Author.Needs.{needs, sfits-of}
 use Rattle.words.specs.Word.{readAt, wrapped}
-use Rattle.words.proofs.Bits.{back-is}
+use Rattle.ground.proofs.Bits.{back-is}
 use Rattle.bench.proofs.relayed.Statement.{statement}
 use Rattle.bench.proofs.relayed.Tie as tie
 

@@ -4,9 +4,9 @@ use mathlib.Core.Path.{_≡_, ap, _∙_}
 use native.Mathlib.Omega.{arith}
 use borrow.Author.Needs.{sfits-of}
 use denote.Ref.{now}
-use Rattle.words.proofs.Bits.{back-is}
-use Rattle.vote.specs.Vote.{at}
-use Rattle.bench.proofs.Dealing.{sent-good, sent-arbitrary, sent-symmetric, sent-manifest}
+use Rattle.ground.specs.Lists.{at}
+use Rattle.ground.proofs.Bits.{back-is}
+use Rattle.exchange.proofs.Dealing.{sent-good, sent-arbitrary, sent-symmetric, sent-manifest}
 use Rattle.bench.proofs.sent_by.Statement.{statement}
 use Rattle.bench.proofs.sent_by.Tie as tie
 

@@ -1,54 +1,86 @@
 -- `bench::word_for` meets its contract: the verdict decides.
 use mathlib.Core.Path.{_≡_, sym, ap, _∙_}
-use native.Mathlib.Omega.{arith}
+use mathlib.Core.Bool.{not}
 use borrow.Author.Needs.{needs, sfits-of}
 use denote.Ref.{now}
 use lib.IntN.{ℤ}
-use Rattle.words.specs.Rule.{omh}
-use Rattle.words.proofs.Bits.{back-is}
-use Rattle.paths.specs.Checks.{verdict}
-use Rattle.paths.specs.Rack.{rack}
+use Rattle.ground.specs.Checks.{verdict}
+use Rattle.ground.proofs.Bools.{holds}
+use Rattle.ground.proofs.Bits.{back-is}
+use Rattle.ground.proofs.Answers.{answer-refused, answer-given}
+use Rattle.ground.proofs.Verdicts.{no-verdict, alone, joined, no-verdicts}
+use Rattle.settings.specs.Settings.{ruleOf, turnOf}
 use Rattle.paths.specs.Slots.{live}
-use Rattle.paths.proofs.Verdicts.{passed-both}
 use Rattle.paths.proofs.Live.{live-slot}
-use Rattle.vote.proofs.Asking.{alive-of}
-use Rattle.bench.specs.Exchange.{exchange, dealt}
+use Rattle.paths.proofs.Members.{in-tells}
+use Rattle.exchange.specs.Exchange.{exchange, dealt}
 use Rattle.bench.specs.Asked.{answerChecks, wordChecks, wordAsked}
-use Rattle.bench.proofs.Asking.{told-refused, told-word, deals, card-asked}
+use Rattle.bench.proofs.Asking.{card-asked, deals, own-card, card-verdict}
 use Rattle.bench.proofs.word_for.Statement.{statement}
 use Rattle.bench.proofs.word_for.Tie as tie
 
-word-refused-requires : tie.Need-word-refused-requires
-word-refused-requires c κs = search needs
+may-relay-requires : tie.Need-may-relay-requires
+may-relay-requires c κs = search needs
 
-told : (c : tie.After-word-refused) → let a = c .before .before .args in c .word-refused .result ≡ verdict (wordChecks (a .n) (a .m) (a .t) (a .x) (now (a .statuses)) (now (a .table)) (a .p) (a .slot))
+live-in-requires : tie.Need-live-in-requires
+live-in-requires c κs = search needs
+
+inputs-long-requires : tie.Need-inputs-long-requires
+inputs-long-requires c κs = search needs
+
+card-refused-requires : tie.Need-card-refused-requires
+card-refused-requires c κs = search needs
+
+when-requires : tie.Need-when-requires
+when-requires c κs = search needs
+
+first-requires : tie.Need-first-requires
+first-requires c κs = search needs
+
+-- the verdict on settings and inputs, then the slot
+told : (c : tie.After-first) → let a = c .before .before .before .before .before .before .before .before .args in c .first .result ≡ verdict (wordChecks (a .s) (a .x) (now (a .statuses)) (now (a .table)) (a .slot))
 told c =
-    let start = c .before .before in
+    let card = c .before .before in
+    let live = card .before .before in
+    let members = live .before .before in
+    let start = members .before .before in
     let a = start .args in
-    c .word-refused .ensures ∙ ap (λ (x : ℤ). verdict (wordChecks (a .n) (a .m) (a .t) x (now (a .statuses)) (now (a .table)) (a .p) (a .slot))) (back-is (start .fits .x))
+    joined (answerChecks (a .s) (a .x) (now (a .statuses)) (now (a .table))) _ tt (c .first .ensures)
+    (card-verdict (a .s) (now (a .statuses)) (start .fits .x) (card .before .inputs-long .ensures) (card .card-refused .ensures))
+    (alone 8 (c .before .when .ensures) (ap not (in-tells (a .s) (a .slot) (members .may-relay .ensures) (live .live-in .ensures))))
 
 returns : tie.Need-returns
 unfolding wordAsked
-returns c = told-refused (told (c .before)) (c .if1 .taken) _
+returns c = answer-refused (told (c .before)) (c .if1 .taken) _
 
 dealt-at-requires : tie.Need-dealt-at-requires
 dealt-at-requires c κs =
-    let a = c .before .before .before .args in
-    let both = passed-both (answerChecks (a .n) (a .m) (a .t) (a .x) (now (a .statuses)) (now (a .table)) (a .p)) tt 7 _ (sym (told (c .before)) ∙ c .if1 .left) in
-    let card = card-asked (a .n) (a .m) (a .t) (a .p) (a .x) (now (a .statuses)) _ (both .0) in
-    let S = rack (a .n) (a .m) (a .t) (a .p) in
-    (deals (now (a .statuses)) (now (a .table)) (card .0 .few) (card .0 .sender) (card .1), live-slot S (a .slot) (alive-of (live S (a .slot)) (both .1)), omega (arith, card .0 .own, card .0 .few))
+    let a = c .before .before .before .before .before .before .before .before .before .args in
+    let both = no-verdicts (answerChecks (a .s) (a .x) (now (a .statuses)) (now (a .table))) _ tt (sym (told (c .before)) ∙ c .if1 .left) in
+    let given = card-asked (a .s) (a .x) (now (a .statuses)) _ (both .0) in
+    (deals _ (now (a .statuses)) (now (a .table)) (given .0 .turn) (given .1), live-slot (a .s) (a .slot) (holds (live (a .s) (a .slot)) (no-verdict _ tt (both .1) .0)), own-card (a .s) (given .0))
 
 returns-2 : tie.Need-returns-2
 unfolding wordAsked
 returns-2 c =
     let none = c .before in
-    let start = none .before .before .before in
+    let start = none .before .before .before .before .before .before .before .before .before in
     let a = start .args in
-    told-word (told (none .before)) (none .if1 .left)
+    answer-given (told (none .before)) (none .if1 .left)
     (back-is (sfits-of (c .dealt-at .ok))
-    ∙ c .dealt-at .ensures (a .n) (a .m)
-    ∙ ap (λ (x : ℤ). dealt omh (exchange (a .n) (a .m) (a .t) x (now (a .statuses)) (now (a .table))) (a .slot) (a .p)) (back-is (start .fits .x)))
+    ∙ c .dealt-at .ensures (a .s .rack)
+    ∙ ap (λ (x : ℤ). dealt (ruleOf (a .s .rack)) (exchange (turnOf (a .s)) x (now (a .statuses)) (now (a .table))) (a .slot) (a .s .p)) (back-is (start .fits .x)))
 
 pub word-for-spec : {M : Type 1} → statement M
-word-for-spec = tie.close (tie.spec word-refused-requires returns dealt-at-requires returns-2)
+word-for-spec =
+    tie.close
+    (tie.spec
+    may-relay-requires
+    live-in-requires
+    inputs-long-requires
+    card-refused-requires
+    when-requires
+    first-requires
+    returns
+    dealt-at-requires
+    returns-2)

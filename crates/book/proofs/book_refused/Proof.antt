@@ -1,32 +1,31 @@
 -- `book::book_refused` meets its contract: the settings' verdict, then the lists' length.
-use mathlib.Core.Path.{sym, ap, _∙_}
+use mathlib.Core.Path.{ap}
 use mathlib.Core.Bool.{not}
 use borrow.Author.Needs.{needs}
-use Rattle.paths.specs.Rack.{settingsChecks}
-use Rattle.paths.proofs.Verdicts.{still-refused, refused-next, none-next}
+use Rattle.ground.proofs.Verdicts.{alone, joined}
+use Rattle.settings.specs.Settings.{settingsChecks}
 use Rattle.book.proofs.book_refused.Statement.{statement}
 use Rattle.book.proofs.book_refused.Tie as tie
 
 settings-refused-requires : tie.Need-settings-refused-requires
 settings-refused-requires c κs = search needs
 
-returns : tie.Need-returns
-returns c = let a = c .before .before .args in still-refused (settingsChecks (a .n) (a .m) (a .t) (a .p)) tt _ (c .before .settings-refused .ensures) (c .if1 .taken)
-
 is-whole-requires : tie.Need-is-whole-requires
 is-whole-requires c κs = search needs
 
-returns-2 : tie.Need-returns-2
-returns-2 c =
-    let v = c .before .before .before in
-    let a = v .before .args in
-    refused-next (settingsChecks (a .n) (a .m) (a .t) (a .p)) tt 5 (v .settings-refused .ensures) (c .before .before .if1 .left) (ap not (sym (c .before .is-whole .ensures)) ∙ c .if2 .taken)
+when-requires : tie.Need-when-requires
+when-requires c κs = search needs
 
-returns-3 : tie.Need-returns-3
-returns-3 c =
-    let v = c .before .before .before in
-    let a = v .before .args in
-    none-next (settingsChecks (a .n) (a .m) (a .t) (a .p)) tt 5 (v .settings-refused .ensures) (c .before .before .if1 .left) (ap not (sym (c .before .is-whole .ensures)) ∙ c .if2 .left)
+first-requires : tie.Need-first-requires
+first-requires c κs = search needs
+
+returns : tie.Need-returns
+returns c =
+    let long = c .before in
+    let whole = long .before in
+    let first = whole .before in
+    joined (settingsChecks (first .before .args .s)) _ tt (c .first .ensures) (first .settings-refused .ensures) (alone 5 (long .when .ensures) (ap not (whole .is-whole .ensures)))
 
 pub book-refused-spec : {M : Type 1} → statement M
-book-refused-spec = tie.close (tie.spec settings-refused-requires returns is-whole-requires returns-2 returns-3)
+book-refused-spec =
+    tie.close (tie.spec settings-refused-requires is-whole-requires when-requires first-requires returns)

@@ -7,7 +7,7 @@ use lib.IntN.{pos}
 use lib.ListN.{length, getD, replicate, length-set, length-replicate, getD-replicate}
 use lib.Seq.{ext-getD}
 use Rattle.words.specs.Word.{E}
-use Rattle.paths.proofs.Tables.{set-next}
+use Rattle.ground.proofs.Lists.{set-next}
 use Rattle.book.proofs.clear.Statement.{statement}
 use Rattle.book.proofs.clear.Tie as tie
 

@@ -4,10 +4,11 @@ use mathlib.Core.Bool.{not}
 use native.Mathlib.Omega.{arith}
 use borrow.Author.Needs.{needs, sfits-of}
 use denote.Ref.{now}
-use Rattle.words.proofs.Bits.{back-is}
-use Rattle.paths.specs.Checks.{verdict, answer}
-use Rattle.book.specs.Asked.{bookOf}
-use Rattle.book.proofs.Outcomes.{sized-both}
+use Rattle.ground.specs.Checks.{verdict}
+use Rattle.ground.specs.Answer.{answer}
+use Rattle.ground.proofs.Bits.{back-is}
+use Rattle.book.specs.Book.{bookOf}
+use Rattle.book.proofs.Asking.{sized-both}
 use Rattle.book.proofs.held_answer.Statement.{statement}
 use Rattle.book.proofs.held_answer.Tie as tie
 

@@ -4,10 +4,10 @@ use mathlib.Core.Path.{sym, ap, ap₂, _∙_}
 use borrow.Author.Needs.{needs}
 use denote.Ref.{now}
 use lib.ListN.{replicate}
+use Rattle.ground.proofs.Answers.{outcome-refused, outcome-done}
 use Rattle.words.specs.Word.{E}
-use Rattle.book.specs.Book.{opened}
-use Rattle.book.specs.Asked.{bookOf}
-use Rattle.book.proofs.Outcomes.{outcome-refused, outcome-done, refill-asked}
+use Rattle.book.specs.Book.{bookOf, opened}
+use Rattle.book.proofs.Asking.{book-asked}
 use Rattle.book.proofs.open.Statement.{statement}
 use Rattle.book.proofs.open.Tie as tie
 
@@ -21,7 +21,7 @@ same-length-2 : tie.Need-same-length-2
 same-length-2 c = search needs
 
 returns : tie.Need-returns
-returns c = outcome-refused (c .before .book-refused .ensures) (c .if1 .taken) _ _ _
+returns c = outcome-refused (c .before .book-refused .ensures) (c .if1 .taken) _ _
 
 clear-requires : tie.Need-clear-requires
 clear-requires c κs = search needs
@@ -43,11 +43,11 @@ returns-2 c =
     let none = first .before .before in
     let v = none .before in
     let a = v .before .before .before .args in
-    let book = refill-asked (a .n) (a .m) (a .t) (a .p) (now (a .words)) (now (a .votes)) (sym (v .book-refused .ensures) ∙ none .if1 .left) in
-    outcome-done (v .book-refused .ensures) (none .if1 .left) _ _ _
+    let book = book-asked (a .s) (bookOf (now (a .words)) (now (a .votes))) (sym (v .book-refused .ensures) ∙ none .if1 .left) .1 in
+    outcome-done (v .book-refused .ensures) (none .if1 .left) _
     (ap₂ bookOf
-    (first .clear .ensures ∙ ap (λ (n : ℕ). replicate n E) (book .words-whole))
-    (second .clear2 .ensures ∙ ap (λ (n : ℕ). replicate n E) (book .votes-whole)))
+    (first .clear .ensures ∙ ap (λ (n : ℕ). replicate n E) (book .words-long))
+    (second .clear2 .ensures ∙ ap (λ (n : ℕ). replicate n E) (book .votes-long)))
 
 pub open-spec : {M : Type 1} → statement M
 open-spec =

@@ -1,8 +1,8 @@
 -- `frames::bytes_of` meets its contract: each byte stands at its place.
 use mathlib.Core.Path.{_≡_, ap, _∙_}
 use borrow.Author.Needs.{needs}
-use Rattle.words.proofs.Bits.{back-is}
-use Rattle.frames.specs.Bytes.{bits32, bytes16, bytes32}
+use Rattle.ground.proofs.Bits.{back-is}
+use Rattle.ground.specs.Bytes.{bits32, bytes16, bytes32}
 use Rattle.frames.specs.Frame.{bytesOf}
 use Rattle.frames.proofs.bytes_of.Statement.{statement}
 use Rattle.frames.proofs.bytes_of.Tie as tie

@@ -1,6 +1,6 @@
 -- `frames::frame_of` meets its contract: each field stands at its place.
 use borrow.Author.Needs.{needs}
-use Rattle.words.proofs.Bits.{back-is}
+use Rattle.ground.proofs.Bits.{back-is}
 use Rattle.frames.specs.Frame.{frameOf}
 use Rattle.frames.proofs.frame_of.Statement.{statement}
 use Rattle.frames.proofs.frame_of.Tie as tie

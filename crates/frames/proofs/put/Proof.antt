@@ -5,7 +5,7 @@ use native.Mathlib.Omega.{arith}
 use lib.ListN.{length, getD, length-set}
 use lib.Seq.{ext-getD}
 use borrow.Author.Needs.{needs}
-use Rattle.paths.proofs.Tables.{set-next}
+use Rattle.ground.proofs.Lists.{set-next}
 use Rattle.frames.proofs.Round.{length-bytes}
 use Rattle.frames.proofs.put.Statement.{statement}
 use Rattle.frames.proofs.put.Tie as tie

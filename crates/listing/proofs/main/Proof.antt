@@ -1,33 +1,41 @@
--- `listing::main` is safe and ends: the text lies within its places.
-use Rattle.trials.specs.Listing.{textOf}
-use Rattle.trials.proofs.Storing.{text-inside, text-long}
+-- `listing::main` is safe and ends: what is kept of the input lies within its places.
+use Prim.Native.Nat.{_≤_}
+use mathlib.Core.Path.{ap, sym}
+use lib.ListN.{length}
+use lib.Seq.{length-take-le}
+use native.Mathlib.Omega.{arith}
 use borrow.Author.Needs.{needs}
+use Rattle.listing.specs.Reading.{bytes}
 use Rattle.listing.proofs.main.Statement.{statement}
 use Rattle.listing.proofs.main.Tie as tie
 
-slice-aggregate-read-full : tie.Need-slice-aggregate-read-full
-slice-aggregate-read-full c = search needs
+slice-aggregate-read-input : tie.Need-slice-aggregate-read-input
+slice-aggregate-read-input c = search needs
 
-read-full-requires : tie.Need-read-full-requires
-read-full-requires c κs = search needs
+read-input-requires : tie.Need-read-input-requires
+read-input-requires c κs = search needs
 
-skip-rest-requires : tie.Need-skip-rest-requires
-skip-rest-requires c κs = search needs
+enum-known-many : tie.Need-enum-known-many
+enum-known-many c = search needs
+
+-- what is kept lies within the file's places
+kept : (c : tie.After-known-told) → c .before .many .given .0 .0 ≤ length (c .before .before .before .before .read-input .last .0)
+kept c = omega (arith, ap bytes (c .before .many .given .1))
 
 array-share-prefix-file : tie.Need-array-share-prefix-file
-array-share-prefix-file c = search needs
+array-share-prefix-file c = kept c
 
-slice-aggregate-list : tie.Need-slice-aggregate-list
-slice-aggregate-list c = search needs
+slice-aggregate-print : tie.Need-slice-aggregate-print
+slice-aggregate-print c = sym (length-take-le _ _ (kept (c .before)))
 
-list-requires : tie.Need-list-requires
-list-requires c κs = search needs
+print-requires : tie.Need-print-requires
+print-requires c κs = search needs
 
-array-share-prefix-text : tie.Need-array-share-prefix-text
-array-share-prefix-text c = let made = c .list .ensures in text-inside textOf _ _ _ (made .0) (made .1)
+enum-told : tie.Need-enum-told
+enum-told c = search needs
 
 slice-aggregate-write-all : tie.Need-slice-aggregate-write-all
-slice-aggregate-write-all c = let made = c .before .list .ensures in text-long textOf _ _ _ (made .0) (made .1)
+slice-aggregate-write-all c = search needs
 
 write-all-requires : tie.Need-write-all-requires
 write-all-requires c κs = search needs
@@ -35,17 +43,21 @@ write-all-requires c κs = search needs
 returns : tie.Need-returns
 returns c = search needs
 
+returns-2 : tie.Need-returns-2
+returns-2 c = search needs
+
 pub main-spec : {M : Type 1} → statement M
 main-spec =
     tie.close
     (tie.spec
-    slice-aggregate-read-full
-    read-full-requires
-    skip-rest-requires
+    slice-aggregate-read-input
+    read-input-requires
+    enum-known-many
     array-share-prefix-file
-    slice-aggregate-list
-    list-requires
-    array-share-prefix-text
+    slice-aggregate-print
+    print-requires
+    enum-told
     slice-aggregate-write-all
     write-all-requires
-    returns)
+    returns
+    returns-2)

@@ -1,10 +1,12 @@
--- `omh::omh_all_answers` meets its contract: the call's number, and the list of answers.
-use mathlib.Core.Path.{ap}
+-- `omh::omh_all_answers` meets its contract: the call's outcome, its answer as a number.
 use borrow.Author.Needs.{needs}
-use Rattle.words.proofs.Bits.{back-is}
-use Rattle.omh.specs.Numbers.{answersGiven}
+use Rattle.ground.proofs.Bits.{back-is}
+use Rattle.omh.proofs.Numbers.{counted}
 use Rattle.omh.proofs.omh_all_answers.Statement.{statement}
 use Rattle.omh.proofs.omh_all_answers.Tie as tie
+
+turn-of-requires : tie.Need-turn-of-requires
+turn-of-requires c κs = search needs
 
 all-answers-requires : tie.Need-all-answers-requires
 all-answers-requires c κs = search needs
@@ -18,9 +20,10 @@ same-length c = search needs
 returns : tie.Need-returns
 returns c =
     let call = c .before .before in
-    let start = call .before .before .before in
-    rw (c .number-of .ensures) (ap answersGiven (rw (back-is (start .fits .x)) at (call .all-answers .ensures)))
+    let turn = call .before .before in
+    counted (c .number-of .ensures) (rw (turn .turn-of .ensures, back-is (turn .before .before .fits .x)) at (call .all-answers .ensures))
 
 pub omh-all-answers-spec : {M : Type 1} → statement M
 omh-all-answers-spec =
-    tie.close (tie.spec all-answers-requires number-of-requires same-length returns)
+    tie.close
+    (tie.spec turn-of-requires all-answers-requires number-of-requires same-length returns)

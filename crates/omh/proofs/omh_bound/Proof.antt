@@ -1,13 +1,11 @@
 -- `omh::omh_bound` meets its contract: 1 or 0 in the place, or the refusal.
-use mathlib.Core.Path.{_≡_}
-use mathlib.Core.Bool.{Bool}
-use denote.Ref.{now}
 use borrow.Author.Needs.{needs}
-use Rattle.paths.specs.Checks.{Answer}
-use Rattle.bench.specs.Asked.{boundAsked}
-use Rattle.bench.specs.declared.Bounded.{Bounded}
-use Rattle.omh.specs.Numbers.{placedAs, bit}
-use Rattle.omh.proofs.Placed.{placed-by, by-bounded}
+use mathlib.Core.Path.{_≡_, refl, sym, ap, _∙_}
+use denote.Ref.{now}
+use Rattle.bound.specs.Bound.{ofBounded, boundAsked}
+use Rattle.bound.specs.declared.Bounded.{Bounded}
+use Rattle.omh.specs.Numbers.{rack, placedAs, bit}
+use Rattle.omh.proofs.Numbers.{in-place}
 use Rattle.omh.proofs.omh_bound.Statement.{statement}
 use Rattle.omh.proofs.omh_bound.Tie as tie
 
@@ -23,12 +21,9 @@ enum-told-2 c = search needs
 enum-known-k : tie.Need-enum-known-k
 enum-known-k c = search needs
 
-abbrev asked : tie.After-bound → Answer Bool
-asked c = let a = c .before .before .args in boundAsked (a .n) (a .m) (now (a .statuses))
-
 -- what the place holds, by what the call gave
-told : (c : tie.After-bound) {d : Bounded} → c .bound .result ≡ d → let before = now (c .before .before .args .held) in placedAs bit (by-bounded .meant d) before ≡ placedAs bit (asked c) before
-told c e = placed-by by-bounded bit (asked c) _ e (c .bound .ensures)
+told : (c : tie.After-bound) {d : Bounded} → c .bound .result ≡ d → let a = c .before .before .args in placedAs bit (ofBounded d) (now (a .held)) ≡ placedAs bit (boundAsked (rack (a .n) (a .m)) (now (a .statuses))) (now (a .held))
+told c e = in-place bit _ refl (ap ofBounded (sym e) ∙ c .bound .ensures)
 
 returns : tie.Need-returns
 returns c = told (c .before .before) (c .enum-told .given .1)

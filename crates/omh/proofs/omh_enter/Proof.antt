@@ -1,10 +1,12 @@
 -- `omh::omh_enter` meets its contract: the call's outcome, its answer as a number.
-use mathlib.Core.Path.{ap}
 use borrow.Author.Needs.{needs}
-use Rattle.words.proofs.Bits.{back-is}
-use Rattle.omh.specs.Numbers.{numbered}
+use Rattle.ground.proofs.Bits.{back-is}
+use Rattle.omh.proofs.Numbers.{counted}
 use Rattle.omh.proofs.omh_enter.Statement.{statement}
 use Rattle.omh.proofs.omh_enter.Tie as tie
+
+settings-of-requires : tie.Need-settings-of-requires
+settings-of-requires c κs = search needs
 
 enter-requires : tie.Need-enter-requires
 enter-requires c κs = search needs
@@ -21,9 +23,16 @@ same-length-2 c = search needs
 returns : tie.Need-returns
 returns c =
     let call = c .before .before .before in
-    let start = call .before .before .before in
-    rw (c .number-of .ensures) (ap numbered (rw (back-is (start .fits .word)) at (call .enter .ensures)))
+    let settings = call .before .before .before in
+    counted (c .number-of .ensures) (rw (settings .settings-of .ensures, back-is (settings .before .fits .word)) at (call .enter .ensures))
 
 pub omh-enter-spec : {M : Type 1} → statement M
 omh-enter-spec =
-    tie.close (tie.spec enter-requires number-of-requires same-length same-length-2 returns)
+    tie.close
+    (tie.spec
+    settings-of-requires
+    enter-requires
+    number-of-requires
+    same-length
+    same-length-2
+    returns)

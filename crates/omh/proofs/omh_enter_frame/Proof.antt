@@ -1,9 +1,11 @@
 -- `omh::omh_enter_frame` meets its contract: the call's outcome, its answer as a number.
-use mathlib.Core.Path.{ap}
 use borrow.Author.Needs.{needs}
-use Rattle.omh.specs.Numbers.{numbered}
+use Rattle.omh.proofs.Numbers.{counted}
 use Rattle.omh.proofs.omh_enter_frame.Statement.{statement}
 use Rattle.omh.proofs.omh_enter_frame.Tie as tie
+
+settings-of-requires : tie.Need-settings-of-requires
+settings-of-requires c κs = search needs
 
 enter-requires : tie.Need-enter-requires
 enter-requires c κs = search needs
@@ -18,8 +20,17 @@ same-length-2 : tie.Need-same-length-2
 same-length-2 c = search needs
 
 returns : tie.Need-returns
-returns c = rw (c .number-of .ensures) (ap numbered (c .before .before .before .enter .ensures))
+returns c =
+    let call = c .before .before .before in
+    counted (c .number-of .ensures) (rw (call .before .before .before .settings-of .ensures) at (call .enter .ensures))
 
 pub omh-enter-frame-spec : {M : Type 1} → statement M
 omh-enter-frame-spec =
-    tie.close (tie.spec enter-requires number-of-requires same-length same-length-2 returns)
+    tie.close
+    (tie.spec
+    settings-of-requires
+    enter-requires
+    number-of-requires
+    same-length
+    same-length-2
+    returns)

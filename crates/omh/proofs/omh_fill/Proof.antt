@@ -1,10 +1,12 @@
 -- `omh::omh_fill` meets its contract: the call's outcome, its answer as a number.
-use mathlib.Core.Path.{ap}
 use borrow.Author.Needs.{needs}
-use Rattle.words.proofs.Bits.{back-is}
-use Rattle.omh.specs.Numbers.{numbered}
+use Rattle.ground.proofs.Bits.{back-is}
+use Rattle.omh.proofs.Numbers.{counted}
 use Rattle.omh.proofs.omh_fill.Statement.{statement}
 use Rattle.omh.proofs.omh_fill.Tie as tie
+
+settings-of-requires : tie.Need-settings-of-requires
+settings-of-requires c κs = search needs
 
 fill-requires : tie.Need-fill-requires
 fill-requires c κs = search needs
@@ -21,9 +23,16 @@ same-length-2 c = search needs
 returns : tie.Need-returns
 returns c =
     let call = c .before .before .before in
-    let start = call .before .before .before .before in
-    rw (c .number-of .ensures) (ap numbered (rw (back-is (start .fits .x)) at (call .fill .ensures)))
+    let settings = call .before .before .before in
+    counted (c .number-of .ensures) (rw (settings .settings-of .ensures, back-is (settings .before .before .fits .x)) at (call .fill .ensures))
 
 pub omh-fill-spec : {M : Type 1} → statement M
 omh-fill-spec =
-    tie.close (tie.spec fill-requires number-of-requires same-length same-length-2 returns)
+    tie.close
+    (tie.spec
+    settings-of-requires
+    fill-requires
+    number-of-requires
+    same-length
+    same-length-2
+    returns)

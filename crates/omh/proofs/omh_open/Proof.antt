@@ -1,9 +1,11 @@
 -- `omh::omh_open` meets its contract: the call's outcome, its answer as a number.
-use mathlib.Core.Path.{ap}
 use borrow.Author.Needs.{needs}
-use Rattle.omh.specs.Numbers.{numbered}
+use Rattle.omh.proofs.Numbers.{counted}
 use Rattle.omh.proofs.omh_open.Statement.{statement}
 use Rattle.omh.proofs.omh_open.Tie as tie
+
+settings-of-requires : tie.Need-settings-of-requires
+settings-of-requires c κs = search needs
 
 open-requires : tie.Need-open-requires
 open-requires c κs = search needs
@@ -18,8 +20,17 @@ same-length-2 : tie.Need-same-length-2
 same-length-2 c = search needs
 
 returns : tie.Need-returns
-returns c = rw (c .number-of .ensures) (ap numbered (c .before .before .before .open .ensures))
+returns c =
+    let call = c .before .before .before in
+    counted (c .number-of .ensures) (rw (call .before .before .before .settings-of .ensures) at (call .open .ensures))
 
 pub omh-open-spec : {M : Type 1} → statement M
 omh-open-spec =
-    tie.close (tie.spec open-requires number-of-requires same-length same-length-2 returns)
+    tie.close
+    (tie.spec
+    settings-of-requires
+    open-requires
+    number-of-requires
+    same-length
+    same-length-2
+    returns)

@@ -1,13 +1,12 @@
 -- `omh::omh_read_frame` meets its contract: the fields in the list, or the refusal.
-use mathlib.Core.Path.{_≡_, ap, _∙_}
-use denote.Ref.{now}
 use borrow.Author.Needs.{needs}
-use Rattle.paths.specs.Checks.{Answer}
-use Rattle.frames.specs.Asked.{readAsked}
-use Rattle.frames.specs.declared.Frame.{Frame}
+use mathlib.Core.Path.{_≡_, refl, sym, ap, _∙_}
+use denote.Ref.{now}
+use Rattle.ground.specs.Answer.{outcome}
+use Rattle.frames.specs.Asked.{ofParsed, readAsked}
 use Rattle.frames.specs.declared.Parsed.{Parsed}
-use Rattle.omh.specs.Numbers.{given, placedAs, fieldsOf}
-use Rattle.omh.proofs.Placed.{placed-by, by-parsed}
+use Rattle.omh.specs.Numbers.{placedAs, fieldsOf}
+use Rattle.omh.proofs.Numbers.{in-place}
 use Rattle.omh.proofs.omh_read_frame.Statement.{statement}
 use Rattle.omh.proofs.omh_read_frame.Tie as tie
 
@@ -23,15 +22,12 @@ fields-of-requires c κs = search needs
 enum-known-k : tie.Need-enum-known-k
 enum-known-k c = search needs
 
-abbrev asked : tie.After-read → Answer Frame
-asked c = readAsked (now (c .before .before .args .bytes))
-
 -- what the list holds, by what the call gave
-told : (c : tie.After-read) {d : Parsed} → c .read .result ≡ d → let before = now (c .before .before .args .fields) in placedAs fieldsOf (by-parsed .meant d) before ≡ placedAs fieldsOf (asked c) before
-told c e = placed-by by-parsed fieldsOf (asked c) _ e (c .read .ensures)
+told : (c : tie.After-read) {d : Parsed} → c .read .result ≡ d → let a = c .before .before .args in placedAs fieldsOf (ofParsed d) (now (a .fields)) ≡ placedAs fieldsOf (readAsked (now (a .bytes))) (now (a .fields))
+told c e = in-place fieldsOf _ refl (ap ofParsed (sym e) ∙ c .read .ensures)
 
 returns : tie.Need-returns
-returns c = ap (given 0) (c .fields-of .ensures) ∙ told (c .before .before .before .before) (c .before .before .f .given .1)
+returns c = ap (outcome 0) (c .fields-of .ensures) ∙ told (c .before .before .before .before) (c .before .before .f .given .1)
 
 returns-2 : tie.Need-returns-2
 returns-2 c = told (c .before .before .before) (c .before .k .given .1)

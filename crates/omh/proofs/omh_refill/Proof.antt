@@ -1,9 +1,11 @@
 -- `omh::omh_refill` meets its contract: the call's outcome, its answer as a number.
-use mathlib.Core.Path.{ap}
 use borrow.Author.Needs.{needs}
-use Rattle.omh.specs.Numbers.{numbered}
+use Rattle.omh.proofs.Numbers.{counted}
 use Rattle.omh.proofs.omh_refill.Statement.{statement}
 use Rattle.omh.proofs.omh_refill.Tie as tie
+
+settings-of-requires : tie.Need-settings-of-requires
+settings-of-requires c κs = search needs
 
 refill-requires : tie.Need-refill-requires
 refill-requires c κs = search needs
@@ -15,7 +17,11 @@ same-length : tie.Need-same-length
 same-length c = search needs
 
 returns : tie.Need-returns
-returns c = rw (c .number-of .ensures) (ap numbered (c .before .before .refill .ensures))
+returns c =
+    let call = c .before .before in
+    counted (c .number-of .ensures) (rw (call .before .before .settings-of .ensures) at (call .refill .ensures))
 
 pub omh-refill-spec : {M : Type 1} → statement M
-omh-refill-spec = tie.close (tie.spec refill-requires number-of-requires same-length returns)
+omh-refill-spec =
+    tie.close
+    (tie.spec settings-of-requires refill-requires number-of-requires same-length returns)

@@ -2,7 +2,7 @@
 use mathlib.Core.Path.{ap, _∙_}
 use borrow.Author.Needs.{needs, sfits-of}
 use Rattle.words.specs.Word.{wrapped}
-use Rattle.words.proofs.Bits.{back-is}
+use Rattle.ground.proofs.Bits.{back-is}
 use Rattle.omh.proofs.omh_wrap.Statement.{statement}
 use Rattle.omh.proofs.omh_wrap.Tie as tie
 

@@ -1,8 +1,8 @@
 -- `paths::is_live` meets its contract: the verdict decides.
-use mathlib.Core.Path.{sym, ap}
 use borrow.Author.Needs.{needs}
-use Rattle.paths.specs.Asked.{livenessOf, liveAsked}
-use Rattle.paths.proofs.Verdicts.{answered, answer-refused}
+use Rattle.ground.proofs.Answers.{answer-refused, answer-given}
+use Rattle.paths.specs.Asked.{liveAsked}
+use Rattle.paths.proofs.Members.{in-tells}
 use Rattle.paths.proofs.is_live.Statement.{statement}
 use Rattle.paths.proofs.is_live.Tie as tie
 
@@ -11,14 +11,23 @@ settings-refused-requires c κs = search needs
 
 returns : tie.Need-returns
 unfolding liveAsked
-returns c = let v = c .before .settings-refused in rw (← (v .ensures)) (ap livenessOf (sym (answer-refused _ _ (c .if1 .taken))))
+returns c = answer-refused (c .before .settings-refused .ensures) (c .if1 .taken) _
 
-live-for-requires : tie.Need-live-for-requires
-live-for-requires c κs = search needs
+may-relay-requires : tie.Need-may-relay-requires
+may-relay-requires c κs = search needs
+
+live-in-requires : tie.Need-live-in-requires
+live-in-requires c κs = search needs
 
 returns-2 : tie.Need-returns-2
 unfolding liveAsked
-returns-2 c = let v = c .before .before .settings-refused in rw (← (v .ensures), c .live-for .ensures) (ap livenessOf (sym (answered _ _ (c .before .if1 .left))))
+returns-2 c =
+    let given = c .before .before in
+    let none = given .before in
+    let a = none .before .before .args in
+    answer-given (none .before .settings-refused .ensures) (none .if1 .left) (in-tells (a .s) (a .slot) (given .may-relay .ensures) (c .live-in .ensures))
 
 pub is-live-spec : {M : Type 1} → statement M
-is-live-spec = tie.close (tie.spec settings-refused-requires returns live-for-requires returns-2)
+is-live-spec =
+    tie.close
+    (tie.spec settings-refused-requires returns may-relay-requires live-in-requires returns-2)

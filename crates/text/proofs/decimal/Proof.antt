@@ -4,7 +4,7 @@ use native.Mathlib.Omega.{arith}
 use borrow.Author.Needs.{needs}
 use lib.IntN.{natAbs}
 use lib.ListN.{length-set}
-use Rattle.words.proofs.Bits.{back}
+use Rattle.ground.proofs.Bits.{back}
 use Rattle.text.proofs.Laws.{length-digits}
 use Rattle.text.proofs.Store.{stored}
 use Rattle.text.proofs.Sign.{plus, under, minus}

@@ -22,18 +22,17 @@ loop-holds c = (omega arith, refl)
 shared-slice-read-text : tie.Need-shared-slice-read-text Inv-loop μ-loop
 shared-slice-read-text c = search needs
 
--- a place of the piece lies within the text
-inside : (c : tie.After-shared-slice-known Inv-loop μ-loop) → length (c .before .before .loop .text) ≡ length (now (c .before .before .before .args .text))
-inside c =
-    let turn = c .before .before in
-    let a = turn .before .args in
-    ap length (turn .loop .inv .1) ∙ length-sets (now (a .text)) (a .at) (take (turn .loop .i) (now (a .piece)))
+-- the text keeps its length
+long : (c : tie.At-loop Inv-loop μ-loop) → length (c .loop .text) ≡ length (now (c .before .args .text))
+long c =
+    let a = c .before .args in
+    ap length (c .loop .inv .1) ∙ length-sets (now (a .text)) (a .at) (take (c .loop .i) (now (a .piece)))
 
 add-text : tie.Need-add-text Inv-loop μ-loop
-add-text c = omega (arith, c .before .before .before .pre)
+add-text c = omega arith
 
 slice-write-text : tie.Need-slice-write-text Inv-loop μ-loop
-slice-write-text c = omega (arith, inside c, c .before .before .before .pre)
+slice-write-text c = omega (arith, long (c .before .before))
 
 add-i : tie.Need-add-i Inv-loop μ-loop
 add-i c = omega arith
@@ -48,20 +47,17 @@ loop-again c =
     (omega arith, next (now (a .piece)) (now (a .text)) (a .at) (turn .loop .i) (c .before .loop-test .taken) (turn .loop .inv .1))
 
 add-result : tie.Need-add-result Inv-loop μ-loop
-add-result c = omega (arith, c .before .before .pre)
+add-result c = omega arith
 
 same-length : tie.Need-same-length Inv-loop μ-loop
-same-length c =
-    let turn = c .before in
-    let a = turn .before .args in
-    ap length (turn .loop .inv .1) ∙ length-sets (now (a .text)) (a .at) (take (turn .loop .i) (now (a .piece)))
+same-length c = long (c .before)
 
 returns : tie.Need-returns Inv-loop μ-loop
 returns c =
     let a = c .before .before .args in
     record {
       ends = refl;
-      leaves = c .before .loop .inv .1 ∙ ap (sets (now (a .text)) (a .at)) (take-all (c .before .loop .i) (now (a .piece)) (c .loop-test .left));
+      stores = c .before .loop .inv .1 ∙ ap (sets (now (a .text)) (a .at)) (take-all (c .before .loop .i) (now (a .piece)) (c .loop-test .left));
     }
 
 pub put-spec : {M : Type 1} → statement M

@@ -1,7 +1,7 @@
 -- `trials::put_answer` meets its contract: the test of the word says which piece is its text.
 use borrow.Author.Needs.{needs}
 use mathlib.Core.Path.{ap, _∙_}
-use Rattle.words.proofs.Bits.{back-is}
+use Rattle.ground.proofs.Bits.{back-is}
 use Rattle.text.specs.Decimal.{decimalOf}
 use Rattle.trials.proofs.Storing.{renamed}
 use Rattle.trials.proofs.Lines.{missing-text, word-text}

@@ -3,7 +3,7 @@ use mathlib.Core.Path.{ap}
 use native.Mathlib.Omega.{arith}
 use borrow.Author.Needs.{needs}
 use lib.IntN.{ℤ}
-use Rattle.words.proofs.Bits.{back, back-is}
+use Rattle.ground.proofs.Bits.{back, back-is}
 use Rattle.trials.specs.Listing.{ending, answerText, lineOf}
 use Rattle.trials.proofs.Storing.{then, kept, renamed}
 use Rattle.trials.proofs.Lines.{length-answer}

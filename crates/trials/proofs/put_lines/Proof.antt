@@ -1,18 +1,20 @@
 -- `trials::put_lines` meets its contract: the lines of the cards below `p` are stored.
-use Prim.Native.Nat.{ℕ, _-_, _≤_, _<_}
-use mathlib.Core.Path.{_≡_, ap}
+use Prim.Native.Nat.{ℕ, _-_, _≤_}
+use mathlib.Core.Path.{_≡_, sym, ap, _∙_}
 use mathlib.Core.List.{List}
-use native.Mathlib.Numerals.{add-one}
+use mathlib.Core.Logic.{⊎-elim}
 use native.Mathlib.Omega.{arith}
+use borrow.Author.Needs.{needs, sfits-of}
 use denote.Ref.{now}
 use lib.IntN.{ℤ}
 use lib.ListN.{getD}
-use Rattle.words.proofs.Bits.{back, back-is}
-use Rattle.vote.specs.Vote.{at as wordAt}
+use Rattle.ground.specs.Lists.{at as wordAt}
+use Rattle.ground.proofs.Bits.{back-is}
+use Rattle.settings.specs.Settings.{fits}
 use Rattle.trials.specs.Listing.{lineOf, lines}
 use Rattle.trials.specs.Storing.{Stored}
-use Rattle.trials.proofs.Storing.{nothing, then, kept, renamed}
-use Rattle.trials.proofs.Lines.{length-line, length-lines}
+use Rattle.trials.proofs.Storing.{nothing, then, kept, renamed, moved}
+use Rattle.trials.proofs.Lines.{length-line, length-lines, lines-yes, lines-no}
 use Rattle.trials.proofs.put_lines.Statement.{statement}
 use Rattle.trials.proofs.put_lines.Tie as tie
 
@@ -20,67 +22,73 @@ abbrev line : List ℕ → List ℤ → ℕ → List ℕ
 line statuses answers p = lineOf p (getD statuses p 0) (wordAt answers p)
 
 abbrev Inv-loop : tie.InvT-loop
-Inv-loop n statuses answers text₀ end₀ p₀ text end p = (p ≤ n) × Stored text₀ 0 (lines (line statuses answers) p) end text
+Inv-loop rack statuses answers text₀ end₀ p₀ text end p = (p ≤ 10) × Stored text₀ 0 (lines (fits rack) (line statuses answers) p) end text
 
 abbrev μ-loop : tie.MeasureT-loop
-μ-loop n statuses answers text₀ end₀ p₀ text end p = n - p
+μ-loop rack statuses answers text₀ end₀ p₀ text end p = 10 - p
 
 loop-holds : tie.Need-loop-holds Inv-loop μ-loop
 unfolding lines
 loop-holds c = (omega arith, nothing _ 0)
 
+fits-requires : tie.Need-fits-requires Inv-loop μ-loop
+fits-requires c κs = search needs
+
 cast-put-line : tie.Need-cast-put-line Inv-loop μ-loop
-cast-put-line c = omega (arith, c .loop-test .taken, c .before .before .before .before .pre .0)
+cast-put-line c = omega arith
 
 shared-slice-read-put-line : tie.Need-shared-slice-read-put-line Inv-loop μ-loop
-shared-slice-read-put-line c = let start = c .before .before .before .before .before in omega (arith, c .before .loop-test .taken, start .pre .0, start .pre .1)
+shared-slice-read-put-line c = omega arith
 
 mul-put-line : tie.Need-mul-put-line Inv-loop μ-loop
-mul-put-line c = omega (arith, c .before .loop-test .taken, c .before .before .before .before .before .pre .0)
+mul-put-line c = omega arith
 
 shared-slice-copy-out-put-line : tie.Need-shared-slice-copy-out-put-line Inv-loop μ-loop
-shared-slice-copy-out-put-line c = let start = c .before .before .before .before .before in omega (arith, c .before .loop-test .taken, start .pre .0, start .pre .3)
+shared-slice-copy-out-put-line c = omega arith
 
 put-line-requires : tie.Need-put-line-requires Inv-loop μ-loop
 put-line-requires c κs =
-    let turn = c .before .before .before in
-    let at = turn .before in
-    let start = at .before .before .before in
+    let turn = c .before .before .before .before .before in
+    let loop = turn .before in
+    let start = loop .before .before .before in
     let a = start .args in
-    let few : at .loop .p < 10 = omega (arith, turn .loop-test .taken, start .pre .0) in
-    (few, omega (arith, start .pre .2 (at .loop .p) few), omega (arith, turn .loop-test .taken, start .pre .4, at .loop .inv .1 .ends, kept (at .loop .inv .1), length-lines (line (now (a .statuses)) (now (a .answers))) (λ p. length-line p _ _) (at .loop .p)))
+    let p = loop .loop .p in
+    let stored = loop .loop .inv .1 in
+    (turn .loop-test .taken, omega (arith, start .pre .1 p (turn .loop-test .taken)), omega (arith, turn .loop-test .taken, start .pre .3, stored .ends, kept stored, length-lines (fits (a .rack)) (line (now (a .statuses)) (now (a .answers))) (λ p. length-line p _ _) p))
 
 add-p : tie.Need-add-p Inv-loop μ-loop
-add-p c = let turn = c .before .before .before .before .before .before in omega (arith, turn .loop-test .taken, turn .before .before .before .before .pre .0)
+add-p c = omega arith
 
 loop-less : tie.Need-loop-less Inv-loop μ-loop
-loop-less c = let turn = c .before .before .before .before .before .before in omega (arith, turn .loop-test .taken)
+loop-less c = omega arith
 
 loop-again : tie.Need-loop-again Inv-loop μ-loop
-unfolding lines
 loop-again c =
-    let call = c .before .before in
-    let read = call .before .before in
-    let turn = read .before .before in
-    let at = turn .before in
-    let a = at .before .before .before .args in
-    let p = at .loop .p in
-    let same : back (wordAt (now (a .answers)) p) ≡ wordAt (now (a .answers)) p = back-is (record { sfits = read .put-line-arg .given }) in
-    let stored = renamed (ap (lineOf p (getD (now (a .statuses)) p 0)) same) (call .put-line .ensures) in
-    (omega (arith, turn .loop-test .taken), rw add-one (then (lines (line (now (a .statuses)) (now (a .answers))) p) (line (now (a .statuses)) (now (a .answers)) p) (at .loop .inv .1) stored))
+    let call = c .before in
+    let turn = call .before in
+    let loop = turn .before in
+    let a = loop .before .before .before .args in
+    let p = loop .loop .p in
+    let stored = loop .loop .inv .1 in
+    let said = sym (call .fits2 .ensures) in (
+      omega arith,
+      ⊎-elim
+          (λ w. moved (w .8) (w .7) (renamed (lines-yes _ _ p (said ∙ w .0 .taken)) (then _ _ stored (renamed (ap (lineOf p (getD (now (a .statuses)) p 0)) (back-is (sfits-of (w .2 .given)))) (w .4 .ensures)))))
+          (λ w. moved (w .2) (w .1) (renamed (lines-no _ _ p (said ∙ w .0 .left)) stored))
+          (c .if1 .came),
+    )
 
 same-length : tie.Need-same-length Inv-loop μ-loop
 same-length c = kept (c .before .loop .inv .1)
 
 returns : tie.Need-returns Inv-loop μ-loop
 returns c =
-    let at = c .before in
-    let start = at .before .before .before in
-    let a = start .args in
-    let end : at .loop .p ≡ a .n = omega (arith, c .loop-test .left, at .loop .inv .0) in
-    renamed (ap (lines (line (now (a .statuses)) (now (a .answers)))) end) (at .loop .inv .1)
+    let loop = c .before in
+    let a = loop .before .before .before .args in
+    let end : loop .loop .p ≡ 10 = omega arith in
+    renamed (ap (lines (fits (a .rack)) (line (now (a .statuses)) (now (a .answers)))) end) (loop .loop .inv .1)
 
 pub put-lines-spec : {M : Type 1} → statement M
 put-lines-spec =
     tie.close
-    (tie.spec Inv-loop μ-loop loop-holds cast-put-line shared-slice-read-put-line mul-put-line shared-slice-copy-out-put-line put-line-requires add-p loop-less loop-again same-length returns)
+    (tie.spec Inv-loop μ-loop loop-holds fits-requires cast-put-line shared-slice-read-put-line mul-put-line shared-slice-copy-out-put-line put-line-requires add-p loop-less loop-again same-length returns)

@@ -2,7 +2,7 @@
 use mathlib.Core.Path.{ap, _∙_}
 use native.Mathlib.Omega.{arith}
 use borrow.Author.Needs.{needs}
-use Rattle.words.proofs.Bits.{back, back-is}
+use Rattle.ground.proofs.Bits.{back, back-is}
 use Rattle.text.specs.Decimal.{decimalOf}
 use Rattle.text.proofs.Laws.{length-text}
 use Rattle.trials.proofs.Storing.{renamed, text-is, text-inside, text-long}

@@ -12,11 +12,13 @@ use denote.Ref.{now}
 use lib.ListN.{length, length-set, set}
 use lib.Seq.{length-take-le}
 use Rattle.words.specs.Rule.{omh}
-use Rattle.words.proofs.Bits.{back, back-is}
+use Rattle.ground.proofs.Bits.{back, back-is}
 use Rattle.paths.specs.Slots.{below}
-use Rattle.vote.specs.Vote.{at}
-use Rattle.vote.specs.Members.{may, memberVote, Asked}
-use Rattle.vote.proofs.Gather.{inside, put-back, Reporting, report-first, report-more, report-same, report-done, decides, vote-last, vote-more, room-less, room-most, room-back}
+use Rattle.ground.specs.Lists.{at}
+use Rattle.paths.specs.Walk.{may}
+use Rattle.vote.specs.Members.{memberVote, Asked}
+use Rattle.vote.proofs.Gather.{inside, Reporting, report-first, report-more, report-same, report-done, decides, vote-last, vote-more}
+use Rattle.paths.proofs.Handed.{put-back, room-less, room-most, room-back}
 use Rattle.vote.proofs.instance.Reads as instance
 use Rattle.vote.proofs.instance.Kinds as instance-kinds
 use Rattle.vote.proofs.+instance+over_members.Lts-instance as instance-lts

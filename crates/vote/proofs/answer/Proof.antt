@@ -1,12 +1,14 @@
 -- `vote::answer` meets its contract: the verdict decides, and none tells what the vote is asked.
-use mathlib.Core.Path.{sym, ap, _∙_}
-use borrow.Author.Needs.{needs, sfits-of}
-use Rattle.words.proofs.Bits.{back-is}
-use Rattle.paths.specs.Rack.{settingsChecks}
-use Rattle.paths.proofs.Verdicts.{answered, answer-refused, passed-both, settings-good}
+use mathlib.Core.Path.{sym, _∙_}
+use borrow.Author.Needs.{needs}
+use borrow.Author.Needs.{sfits-of}
+use denote.Ref.{now}
+use Rattle.ground.proofs.Bits.{back-is}
+use Rattle.ground.proofs.Answers.{answer-refused, answer-given}
 use Rattle.paths.proofs.Live.{live-zero}
-use Rattle.vote.specs.Asked.{votedOf, answerAsked}
-use Rattle.vote.proofs.Asking.{whole-of}
+use Rattle.paths.proofs.Members.{first-members}
+use Rattle.vote.specs.Asked.{answerAsked}
+use Rattle.vote.proofs.Asking.{words-asked}
 use Rattle.vote.proofs.answer.Statement.{statement}
 use Rattle.vote.proofs.answer.Tie as tie
 
@@ -15,20 +17,25 @@ words-refused-requires c κs = search needs
 
 returns : tie.Need-returns
 unfolding answerAsked
-returns c = rw (← (c .before .words-refused .ensures)) (ap votedOf (sym (answer-refused _ _ (c .if1 .taken))))
+returns c = answer-refused (c .before .words-refused .ensures) (c .if1 .taken) _
+
+may-relay-requires : tie.Need-may-relay-requires
+may-relay-requires c κs = search needs
 
 vote-of-requires : tie.Need-vote-of-requires
 vote-of-requires c κs =
-    let v = c .before in
-    let a = v .before .args in
-    let words = passed-both (settingsChecks (a .n) (a .m) (a .t) (a .p)) tt 4 _ (sym (v .words-refused .ensures) ∙ c .if1 .left) in
-    record { few = settings-good (a .n) (a .m) (a .t) (a .p) (words .0) .deep; alive = live-zero _; whole = whole-of _ (words .1) }
+    let first = c .before in
+    let none = first .before in
+    let a = none .before .before .args in
+    let given = words-asked (a .s) (now (a .words)) (sym (none .before .words-refused .ensures) ∙ none .if1 .left) in
+    record { few = given .0 .turn .rack .deep; alive = live-zero (a .s); whole = given .1; here = first .may-relay .ensures ∙ first-members (a .s) }
 
 returns-2 : tie.Need-returns-2
 unfolding answerAsked
 returns-2 c =
-    rw (← (c .before .before .words-refused .ensures), ← (c .vote-of .ensures), back-is (sfits-of (c .vote-of .ok)))
-    (ap votedOf (sym (answered _ _ (c .before .if1 .left))))
+    let none = c .before .before .before in
+    answer-given (none .before .words-refused .ensures) (none .if1 .left) (back-is (sfits-of (c .vote-of .ok)) ∙ c .vote-of .ensures)
 
 pub answer-spec : {M : Type 1} → statement M
-answer-spec = tie.close (tie.spec words-refused-requires returns vote-of-requires returns-2)
+answer-spec =
+    tie.close (tie.spec words-refused-requires returns may-relay-requires vote-of-requires returns-2)

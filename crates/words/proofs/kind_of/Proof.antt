@@ -8,7 +8,7 @@ use mir.Val.{Fits, SFits}
 use mir.Facts.{fits-lit}
 use Rattle.words.specs.Word.{kindOf}
 use Rattle.words.specs.declared.Kind.the-variants.{Missing}
-use Rattle.words.proofs.Bits.{back}
+use Rattle.ground.proofs.Bits.{back}
 use Rattle.words.proofs.ByKind.{told-below, told-among, told-four, told-beyond}
 use Rattle.words.proofs.kind_of.Statement.{statement}
 use Rattle.words.proofs.kind_of.Tie as tie

@@ -15,7 +15,7 @@ use mir.Val.{ofZ}
 use Rattle.words.specs.Word.{E}
 use Rattle.words.specs.Majority.{kept, occurs, first, overHalf, majority}
 use Rattle.words.specs.Rule.{omh, majorityBy}
-use Rattle.words.proofs.Bits.{back-is}
+use Rattle.ground.proofs.Bits.{back-is}
 use Rattle.words.proofs.Search.{told-same, told, occurs-more, occurs-other, turn-struck, turn-next, turn-over}
 use Rattle.words.proofs.majority.Statement.{statement}
 use Rattle.words.proofs.majority.Tie as tie

@@ -7,7 +7,7 @@ use lib.IntN.{ℤ, pos, _-ℤ_}
 use mir.Syntax.{w32}
 use mir.Val.{SFits}
 use Rattle.words.specs.Word.{kindOf, missing, unwrapped}
-use Rattle.words.proofs.Bits.{back, back-is}
+use Rattle.ground.proofs.Bits.{back, back-is}
 use Rattle.words.proofs.ByKind.{four, missing-is, told-kind}
 use Rattle.words.proofs.unwrap.Statement.{statement}
 use Rattle.words.proofs.unwrap.Tie as tie

@@ -1,0 +1,10 @@
+pub mod Sums
+pub mod Elected
+pub mod Left
+pub mod Fair
+pub mod Heard
+pub mod Instances
+pub mod Costs
+pub mod Theorem
+pub mod Tabled
+pub mod Demand2

@@ -1,0 +1,3 @@
+pub mod Entering
+pub mod Runs
+pub mod Fixed

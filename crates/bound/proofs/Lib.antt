@@ -1,0 +1,4 @@
+pub mod Counting
+pub mod Says
+pub mod Asking
+pub mod Fixed

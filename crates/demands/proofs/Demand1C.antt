@@ -1,0 +1,95 @@
+-- Demand 1 of what a card gets: each exported function answers 0 or the number of the first check that applies, and a refusal changes nothing that is lent.
+use denote.Ref.{now}
+use Rattle.ground.specs.Fixes.{Allows}
+use Rattle.settings.specs.Asked.{settings}
+use Rattle.vote.specs.Asked.{voteChecks, voteAsked}
+use Rattle.book.specs.Book.{bookOf}
+use Rattle.book.specs.Asked.{bookChecks, slotChecks, heldChecks}
+use Rattle.frames.specs.Asked.{readChecks, readAsked, writeChecks, writeAsked}
+use Rattle.arrivals.specs.Entry.{arrivalChecks, frameAsked}
+use Rattle.bench.specs.Asked as bench
+use Rattle.bench.specs.Asked.{wordChecks, wordAsked, answerChecks, answersChecks, answersAsked, fillChecks, fillAsked}
+use Rattle.bound.specs.Bound.{boundChecks, boundAsked}
+use Rattle.omh.specs.Numbers.{rack, turn, frameWith}
+use Rattle.demands.specs.Refusing.{Numbers}
+use Rattle.demands.proofs.Order.{by-number, by-place}
+use Rattle.omh.proofs.omh_vote_at.Kinds as vote-at
+use Rattle.omh.proofs.omh_vote_at.Reads as vote-at-says
+use Rattle.omh.proofs.omh_open.Kinds as opening
+use Rattle.omh.proofs.omh_open.Reads as opening-says
+use Rattle.omh.proofs.omh_enter.Kinds as enter
+use Rattle.omh.proofs.omh_enter.Reads as enter-says
+use Rattle.omh.proofs.omh_refill.Kinds as refill
+use Rattle.omh.proofs.omh_refill.Reads as refill-says
+use Rattle.omh.proofs.omh_held_answer.Kinds as held-answer
+use Rattle.omh.proofs.omh_held_answer.Reads as held-answer-says
+use Rattle.omh.proofs.omh_read_frame.Kinds as read-frame
+use Rattle.omh.proofs.omh_read_frame.Reads as read-frame-says
+use Rattle.omh.proofs.omh_write_frame.Kinds as write-frame
+use Rattle.omh.proofs.omh_write_frame.Reads as write-frame-says
+use Rattle.omh.proofs.omh_enter_frame.Kinds as enter-frame
+use Rattle.omh.proofs.omh_enter_frame.Reads as enter-frame-says
+use Rattle.omh.proofs.omh_word_for.Kinds as word-for
+use Rattle.omh.proofs.omh_word_for.Reads as word-for-says
+use Rattle.omh.proofs.omh_answer_for.Kinds as answer-for
+use Rattle.omh.proofs.omh_answer_for.Reads as answer-for-says
+use Rattle.omh.proofs.omh_all_answers.Kinds as all-answers
+use Rattle.omh.proofs.omh_all_answers.Reads as all-answers-says
+use Rattle.omh.proofs.omh_fill.Kinds as fill
+use Rattle.omh.proofs.omh_fill.Reads as fill-says
+use Rattle.omh.proofs.omh_bound.Kinds as bound
+use Rattle.omh.proofs.omh_bound.Reads as bound-says
+
+-- ---- the vote and the book
+
+pub vote-at-refuses : Allows 2 vote-at.ps vote-at.r vote-at-says.Post (λ κs a x s. Numbers (voteChecks (settings (a .0) (a .1 .0) (a .1 .1 .0) (a .1 .1 .1 .0)) (now (a .1 .1 .1 .1 .0)) (a .1 .1 .1 .1 .1 .0)) x (now (a .1 .1 .1 .1 .1 .1 .0)) (now (s .1 .1 .1 .1 .1 .1 .0)))
+unfolding voteAsked
+vote-at-refuses κs a x s p = by-place _ _ _ _ p
+
+pub opening-refuses : Allows 2 opening.ps opening.r opening-says.Post (λ κs a x s. Numbers (bookChecks (settings (a .0) (a .1 .0) (a .1 .1 .0) (a .1 .1 .1 .0)) (bookOf (now (a .1 .1 .1 .1 .0)) (now (a .1 .1 .1 .1 .1 .0)))) x (bookOf (now (a .1 .1 .1 .1 .0)) (now (a .1 .1 .1 .1 .1 .0))) (bookOf (now (s .1 .1 .1 .1 .0)) (now (s .1 .1 .1 .1 .1 .0))))
+opening-refuses κs a x s p = by-number _ _ p
+
+pub enter-refuses : Allows 2 enter.ps enter.r enter-says.Post (λ κs a x s. Numbers (slotChecks (settings (a .0) (a .1 .0) (a .1 .1 .0) (a .1 .1 .1 .0)) (bookOf (now (a .1 .1 .1 .1 .0)) (now (a .1 .1 .1 .1 .1 .0))) (a .1 .1 .1 .1 .1 .1 .0)) x (bookOf (now (a .1 .1 .1 .1 .0)) (now (a .1 .1 .1 .1 .1 .0))) (bookOf (now (s .1 .1 .1 .1 .0)) (now (s .1 .1 .1 .1 .1 .0))))
+enter-refuses κs a x s p = by-number _ _ p
+
+pub refill-refuses : Allows 2 refill.ps refill.r refill-says.Post (λ κs a x s. Numbers (bookChecks (settings (a .0) (a .1 .0) (a .1 .1 .0) (a .1 .1 .1 .0)) (bookOf (now (a .1 .1 .1 .1 .0)) (now (a .1 .1 .1 .1 .1 .0)))) x (bookOf (now (a .1 .1 .1 .1 .0)) (now (a .1 .1 .1 .1 .1 .0))) (bookOf (now (a .1 .1 .1 .1 .0)) (now (s .1 .1 .1 .1 .1 .0))))
+refill-refuses κs a x s p = by-number _ _ p
+
+pub held-answer-refuses : Allows 3 held-answer.ps held-answer.r held-answer-says.Post (λ κs a x s. Numbers (heldChecks (bookOf (now (a .0)) (now (a .1 .0)))) x (now (a .1 .1 .0)) (now (s .1 .1 .0)))
+held-answer-refuses κs a x s p = by-place _ _ _ _ p
+
+-- ---- frames
+
+pub read-frame-refuses : Allows 2 read-frame.ps read-frame.r read-frame-says.Post (λ κs a x s. Numbers (readChecks (now (a .0))) x (now (a .1 .0)) (now (s .1 .0)))
+unfolding readAsked
+read-frame-refuses κs a x s p = by-place _ _ _ _ p
+
+pub write-frame-refuses : Allows 1 write-frame.ps write-frame.r write-frame-says.Post (λ κs a x s. Numbers (writeChecks (frameWith (a .0) (a .1 .0) (a .1 .1 .0) (a .1 .1 .1 .0) (a .1 .1 .1 .1 .0) (a .1 .1 .1 .1 .1 .0) (a .1 .1 .1 .1 .1 .1 .0) (a .1 .1 .1 .1 .1 .1 .1 .0)) (now (a .1 .1 .1 .1 .1 .1 .1 .1 .0))) x (now (a .1 .1 .1 .1 .1 .1 .1 .1 .0)) (now (s .1 .1 .1 .1 .1 .1 .1 .1 .0)))
+unfolding writeAsked
+write-frame-refuses κs a x s p = by-number _ _ p
+
+pub enter-frame-refuses : Allows 3 enter-frame.ps enter-frame.r enter-frame-says.Post (λ κs a x s. Numbers (arrivalChecks (settings (a .0) (a .1 .0) (a .1 .1 .0) (a .1 .1 .1 .0)) (bookOf (now (a .1 .1 .1 .1 .0)) (now (a .1 .1 .1 .1 .1 .0))) (a .1 .1 .1 .1 .1 .1 .0) (now (a .1 .1 .1 .1 .1 .1 .1 .0))) x (bookOf (now (a .1 .1 .1 .1 .0)) (now (a .1 .1 .1 .1 .1 .0))) (bookOf (now (s .1 .1 .1 .1 .0)) (now (s .1 .1 .1 .1 .1 .0))))
+unfolding frameAsked
+enter-frame-refuses κs a x s p = by-number _ _ p
+
+-- ---- the bench
+
+pub word-for-refuses : Allows 3 word-for.ps word-for.r word-for-says.Post (λ κs a x s. Numbers (wordChecks (settings (a .0) (a .1 .0) (a .1 .1 .0) (a .1 .1 .1 .1 .1 .1 .0)) (a .1 .1 .1 .0) (now (a .1 .1 .1 .1 .0)) (now (a .1 .1 .1 .1 .1 .0)) (a .1 .1 .1 .1 .1 .1 .1 .0)) x (now (a .1 .1 .1 .1 .1 .1 .1 .1 .0)) (now (s .1 .1 .1 .1 .1 .1 .1 .1 .0)))
+unfolding wordAsked
+word-for-refuses κs a x s p = by-place _ _ _ _ p
+
+pub answer-for-refuses : Allows 3 answer-for.ps answer-for.r answer-for-says.Post (λ κs a x s. Numbers (answerChecks (settings (a .0) (a .1 .0) (a .1 .1 .0) (a .1 .1 .1 .1 .1 .1 .0)) (a .1 .1 .1 .0) (now (a .1 .1 .1 .1 .0)) (now (a .1 .1 .1 .1 .1 .0))) x (now (a .1 .1 .1 .1 .1 .1 .1 .0)) (now (s .1 .1 .1 .1 .1 .1 .1 .0)))
+unfolding bench.answerForAsked
+answer-for-refuses κs a x s p = by-place _ _ _ _ p
+
+pub all-answers-refuses : Allows 3 all-answers.ps all-answers.r all-answers-says.Post (λ κs a x s. Numbers (answersChecks (turn (a .0) (a .1 .0) (a .1 .1 .0)) (a .1 .1 .1 .0) (now (a .1 .1 .1 .1 .0)) (now (a .1 .1 .1 .1 .1 .0)) (now (a .1 .1 .1 .1 .1 .1 .0))) x (now (a .1 .1 .1 .1 .1 .1 .0)) (now (s .1 .1 .1 .1 .1 .1 .0)))
+unfolding answersAsked
+all-answers-refuses κs a x s p = by-number _ _ p
+
+pub fill-refuses : Allows 4 fill.ps fill.r fill-says.Post (λ κs a x s. Numbers (fillChecks (settings (a .0) (a .1 .0) (a .1 .1 .0) (a .1 .1 .1 .1 .1 .1 .0)) (a .1 .1 .1 .0) (now (a .1 .1 .1 .1 .0)) (now (a .1 .1 .1 .1 .1 .0)) (bookOf (now (a .1 .1 .1 .1 .1 .1 .1 .0)) (now (a .1 .1 .1 .1 .1 .1 .1 .1 .0)))) x (bookOf (now (a .1 .1 .1 .1 .1 .1 .1 .0)) (now (a .1 .1 .1 .1 .1 .1 .1 .1 .0))) (bookOf (now (s .1 .1 .1 .1 .1 .1 .1 .0)) (now (s .1 .1 .1 .1 .1 .1 .1 .1 .0))))
+unfolding fillAsked
+fill-refuses κs a x s p = by-number _ _ p
+
+pub bound-refuses : Allows 2 bound.ps bound.r bound-says.Post (λ κs a x s. Numbers (boundChecks (rack (a .0) (a .1 .0)) (now (a .1 .1 .0))) x (now (a .1 .1 .1 .0)) (now (s .1 .1 .1 .0)))
+unfolding boundAsked
+bound-refuses κs a x s p = by-place _ _ _ _ p

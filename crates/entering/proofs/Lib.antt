@@ -1,0 +1,10 @@
+pub mod Leaf
+pub mod Steps
+pub mod Along
+pub mod Entering
+pub mod OnlyLive
+pub mod FromOpening
+pub mod LastWord
+pub mod Demand3
+pub mod Calls
+pub mod Fixed

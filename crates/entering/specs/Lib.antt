@@ -1,0 +1,5 @@
+pub mod Entered
+pub mod Asked
+pub mod Remaking
+pub mod Run
+pub mod Calls

@@ -1,0 +1,25 @@
+-- Each public function's contract fixes its answer: two answers that it allows are equal.
+use Prim.Native.Nat.{ℕ}
+use mathlib.Core.Path.{sym, _∙_}
+use mathlib.Core.Bool.{Bool}
+use Rattle.ground.specs.Fixes.{Fixes}
+use Rattle.exchange.proofs.statuses_bad.Kinds as statuses-bad
+use Rattle.exchange.proofs.statuses_bad.Reads as statuses-bad-says
+use Rattle.exchange.proofs.statuses_refused.Kinds as statuses-refused
+use Rattle.exchange.proofs.statuses_refused.Reads as statuses-refused-says
+use Rattle.exchange.proofs.values_refused.Kinds as values-refused
+use Rattle.exchange.proofs.values_refused.Reads as values-refused-says
+use Rattle.exchange.proofs.inputs_long.Kinds as inputs-long
+use Rattle.exchange.proofs.inputs_long.Reads as inputs-long-says
+
+pub statuses-bad-fixed : Fixes 1 statuses-bad.ps statuses-bad.r statuses-bad-says.Post Bool (λ κs x s. x)
+statuses-bad-fixed κs a x y s t p q = p ∙ sym q
+
+pub statuses-refused-fixed : Fixes 1 statuses-refused.ps statuses-refused.r statuses-refused-says.Post ℕ (λ κs x s. x)
+statuses-refused-fixed κs a x y s t p q = p ∙ sym q
+
+pub values-refused-fixed : Fixes 1 values-refused.ps values-refused.r values-refused-says.Post ℕ (λ κs x s. x)
+values-refused-fixed κs a x y s t p q = p ∙ sym q
+
+pub inputs-long-fixed : Fixes 2 inputs-long.ps inputs-long.r inputs-long-says.Post Bool (λ κs x s. x)
+inputs-long-fixed κs a x y s t p q = p ∙ sym q

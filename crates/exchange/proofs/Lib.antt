@@ -1,0 +1,4 @@
+pub mod Statuses
+pub mod Dealing
+pub mod Asking
+pub mod Fixed

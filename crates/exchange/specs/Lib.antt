@@ -1,0 +1,2 @@
+pub mod Exchange
+pub mod Asked

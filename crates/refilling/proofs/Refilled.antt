@@ -1,0 +1,52 @@
+-- Laws of refilling: every live vote is right after it, votes at other slots stay, and putting in the votes from slot 0 is refilling.
+use Prim.Native.Nat.{ℕ, _≤_, _<_}
+use mathlib.Core.Path.{_≡_, sym, ap, _∙_}
+use mathlib.Core.Bool.{cond}
+use mathlib.Core.List.{List}
+use native.Mathlib.Omega.{arith}
+use lib.Dec.{T}
+use lib.IntN.{ℤ, pos}
+use lib.ListN.{length}
+use Rattle.ground.specs.Checks.{verdict}
+use Rattle.ground.specs.Lists.{at}
+use Rattle.ground.proofs.Bools.{cond-yes}
+use Rattle.ground.proofs.Lists.{at-table}
+use Rattle.words.specs.Rule.{Rule}
+use Rattle.settings.specs.Settings.{slots}
+use Rattle.settings.specs.declared.Settings.{Settings}
+use Rattle.paths.specs.Slots.{level, live, membersOf, roundsLeft}
+use Rattle.paths.specs.Walk.{putIn}
+use Rattle.paths.proofs.Live.{live-slot}
+use Rattle.paths.proofs.Walk.{put-is}
+use Rattle.vote.specs.Vote.{vote}
+use Rattle.vote.specs.Members.{memberVote}
+use Rattle.vote.proofs.Handed.{handed-vote, own-vote}
+use Rattle.book.specs.Book.{bookOf}
+use Rattle.book.specs.Asked.{bookChecks}
+use Rattle.book.proofs.Asking.{book-asked}
+use Rattle.refilling.specs.Refilled.{refilledVotes}
+use Rattle.refilling.specs.RefillOrder.{Refills}
+
+module _ (R : Rule) (s : Settings) (ws vs : List ℤ) where
+  -- ---- what refilling leaves
+
+  refilled-at : (k : ℕ) → k < slots → at (refilledVotes R s ws vs) k ≡ cond (live s k) (vote R s ws k) (at vs k)
+  unfolding refilledVotes
+  refilled-at k h = at-table slots 0 _ k (pos 0) h ∙ ap (λ (k : ℕ). cond (live s k) (vote R s ws k) (at vs k)) (omega arith)
+
+  -- every live vote is the vote from the words, whatever the votes were
+  pub refilled-agrees : (k : ℕ) → T (live s k) → at (refilledVotes R s ws vs) k ≡ vote R s ws k
+  refilled-agrees k t = refilled-at k (live-slot s k t) ∙ cond-yes (live s k) _ _ t
+
+  -- ---- refilling as the code does it
+
+  pub put-votes : s .rack .m ≤ 3 → length vs ≡ slots → putIn (memberVote R ws) (membersOf s 0) (roundsLeft s 0) 0 0 vs ≡ refilledVotes R s ws vs
+  unfolding refilledVotes level
+  put-votes few long =
+      put-is s (memberVote R ws) (vote R s ws) vs few long (λ o. handed-vote R s ws o few) (λ e. sym (own-vote R s ws 0 (membersOf s 0) e))
+
+-- what no verdict on a call tells
+pub refill-asked : (s : Settings) (ws vs : List ℤ) → verdict (bookChecks s (bookOf ws vs)) ≡ 0 → Refills s ws vs
+refill-asked s ws vs e =
+    let given = book-asked s (bookOf ws vs) e in
+    record { few = given .0 .turn .rack .deep; words-whole = given .1 .words-long; votes-whole = given .1 .votes-long }

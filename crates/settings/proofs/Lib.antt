@@ -1,0 +1,4 @@
+pub mod Twenty
+pub mod Good
+pub mod Last
+pub mod Fixed
