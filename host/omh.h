@@ -5,9 +5,14 @@
  *
  * A list is a pointer and its length, counted in elements; a place for one
  * word, the eight fields and the text are pointers alone. No pointer is null,
- * the memory behind it has its length, and nothing that a call may write
- * overlaps anything else of the call; that is all a caller owes. The archive
- * asks the C library for memcpy and memset, and for nothing else.
+ * each has the alignment of its C type and needs no other, the memory behind
+ * it has its length, and nothing that a call may write overlaps anything else
+ * of the call or is used by another thread meanwhile. The stack has the
+ * call's OMH_STACK_ bytes. That is all a caller owes. The archive asks the C
+ * library for memcpy and memset, and for nothing else.
+ *
+ * No function keeps anything between calls: any number of threads may call at
+ * once, on different lists.
  *
  * Unless said otherwise an answer is 0, or the refusal's number of document
  * 01; after a refusal no lent memory differs. The numbers that a function may
@@ -35,6 +40,35 @@ enum {
 
 /* Missing, unwrapped: document 01's E. */
 #define OMH_E INT32_C(1000000000)
+
+/* Stack: no call of the function takes more bytes beyond its caller's frame,
+   whatever it is given, in the archive for x86-64 and in the one for Arm. What
+   the C library's memcpy and memset take is not counted, nor what a dynamic
+   linker takes that looks for them at their first call. */
+enum {
+    OMH_STACK_READ_AT = 512,
+    OMH_STACK_WRAP = 512,
+    OMH_STACK_UNWRAP = 512,
+    OMH_STACK_MAJORITY = 512,
+    OMH_STACK_VOTE_AT = 1024,
+    OMH_STACK_OPEN = 512,
+    OMH_STACK_ENTER = 1024,
+    OMH_STACK_REFILL = 2048,
+    OMH_STACK_HELD_ANSWER = 512,
+    OMH_STACK_NEXT_EXCHANGE = 512,
+    OMH_STACK_AGE = 512,
+    OMH_STACK_AGE_CLASS = 512,
+    OMH_STACK_READ_FRAME = 512,
+    OMH_STACK_WRITE_FRAME = 512,
+    OMH_STACK_ENTER_FRAME = 1024,
+    OMH_STACK_WORD_FOR = 1024,
+    OMH_STACK_ANSWER_FOR = 2048,
+    OMH_STACK_ALL_ANSWERS = 2048,
+    OMH_STACK_FILL = 2048,
+    OMH_STACK_BOUND = 512,
+    OMH_STACK_LIST = 49152,     /* a table among them */
+    OMH_STACK_REFUSED = 1024    /* omh_list, for a file that is refused */
+};
 
 /* Refusal numbers, document 01's table. */
 enum {

@@ -25,7 +25,7 @@ CALLS = (
 )
 
 WHY = """
-All answers at (4, 1) and (7, 2): the words of all cards stand in one list of 11,110 words, and no list of the proved code can be left unset, as C leaves its own. The disassembly of `bench::all_answers` has a call of `memset` over its 44,440 bytes, which callgrind counts at some 3,500 instructions in every call: three times C's whole call at (4, 1). A list that fits m would need a vote over lists of other lengths than document 01's 1,111 words. One card's answer has no target; it asks for each slot whether it is live, and walks up anew for each word.
+One card's answer and all answers take no list of words: what the last relay sends is handed down with its path.
 
 Refilling is below C because it reads the last level where it goes through the members, and C's does not."""
 
