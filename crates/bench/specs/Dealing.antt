@@ -11,6 +11,7 @@ use Rattle.paths.specs.Slots.{below}
 use Rattle.paths.specs.Walk.{may, room}
 use Rattle.vote.specs.Vote.{decided}
 use Rattle.exchange.specs.Exchange.{statusOf, sent}
+use Rattle.exchange.specs.Asked.{tableWords}
 
 -- what p receives at slot k from a card of this status byte, which sends the word if it is good
 abbrev pub sentTo : ℕ → ℤ → List ℤ → ℕ → ℕ → ℤ
@@ -20,7 +21,7 @@ sentTo status word words k p = sent (statusOf status) word (at words (10 * k + p
 pub record Deals (t : ℕ) (statuses : List ℕ) (words : List ℤ) : Type 0 where
   pub sender : t < 10
   pub statuses-long : length statuses ≡ 10
-  pub table-long : length words ≡ 11110
+  pub table-long : length words ≡ tableWords
 
 -- the vote of card p at slot k of level d, on which a card of this status byte sends the word if it is good, with r rounds left
 unfoldable pub dealtVote : Rule → List ℕ → List ℤ → ℕ → List Bool → ℕ → ℕ → ℕ → ℕ → ℤ → ℤ
@@ -37,7 +38,7 @@ dealtVotes R statuses words p members r d k status word c =
 -- what such a vote is asked: the inputs' lengths, a card, all ten cards, at most three relays in all, and a slot with room for those left
 pub record Dealing (statuses : List ℕ) (words : List ℤ) (p : ℕ) (members : List Bool) (r d k : ℕ) : Type 0 where
   pub statuses-long : length statuses ≡ 10
-  pub table-long : length words ≡ 11110
+  pub table-long : length words ≡ tableWords
   pub card : p < 10
   pub cards : length members ≡ 10
   pub deep : r + d ≤ 3

@@ -4,6 +4,7 @@ use ground::Told;
 use ground::refusal;
 use settings::Settings;
 use settings::Turn;
+use vote::REPORTS;
 use words::E;
 ghost use mathlib.Core.Path.{_≡_};
 ghost use mathlib.Core.List.{_++_};
@@ -18,13 +19,10 @@ ghost use Rattle.settings.specs.declared.Rack.{Rack};
 ghost use Rattle.vote.specs.Vote.{decided};
 ghost use Rattle.book.specs.Book.{bookOf};
 ghost use Rattle.exchange.specs.Exchange.{exchange, dealt, answerOf};
-ghost use Rattle.exchange.specs.Asked.{valueChecks};
+ghost use Rattle.exchange.specs.Asked.{tableWords, valueChecks};
 ghost use Rattle.bench.specs.Bench.{dealtOver, answersOf};
 ghost use Rattle.bench.specs.Dealing.{sentTo, Deals, Dealing, dealtVote, dealtVotes};
 ghost use Rattle.bench.specs.Asked.{wordAsked, answerForAsked, answersAsked, fillAsked};
-
-// An own report, and one from each of the ten cards.
-const REPORTS: usize = Settings::MAX_CARDS + 1;
 
 // The refusal number of settings and of what an exchange is given; 0 for none.
 fn card_refused(s: Settings, x: i32, statuses: &[u8], long: bool) -> u8
@@ -38,7 +36,7 @@ fn card_refused(s: Settings, x: i32, statuses: &[u8], long: bool) -> u8
 
 // What card p receives at slot k from a card of this status, which sends `word` if it is good.
 fn sent_by(status: u8, word: i32, table: &[i32], k: usize, p: usize) -> i32
-    requires { ⌜ (length (now table) ≡ 11110) × (k < slots) × (p < 10) ⌝ }
+    requires { ⌜ (length (now table) ≡ tableWords) × (k < slots) × (p < 10) ⌝ }
     ensures { λ r. ⌜ r ≡ sentTo status word (now (table .entry)) k p ⌝ }
 {
     let first = 10 * k;

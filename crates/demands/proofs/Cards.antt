@@ -1,27 +1,30 @@
 -- Demand 2, the laws: what the answers of good cards are where the calls for them are not refused.
 use Prim.Native.Nat.{ℕ, _+_, _*_, _≤_, _<_}
-use mathlib.Core.Path.{_≡_, sym, ap, _∙_}
-use mathlib.Core.Bool.{true, cond}
-use mathlib.Core.List.{List}
+use mathlib.Core.Path.{_≡_, refl, sym, ap, _∙_}
+use mathlib.Core.Bool.{Bool, true, not, cond}
+use mathlib.Core.List.{List, [], _∷_}
+use mathlib.Core.Logic.{_↔_}
 use native.Mathlib.Omega.{arith}
-use lib.Dec.{T}
+use lib.Dec.{T, eqb}
 use lib.IntN.{ℤ, pos}
-use lib.ListN.{getD}
-use Rattle.ground.specs.Checks.{verdict}
+use lib.ListN.{length, getD}
+use borrow.Author.Tests.{eq-eqb}
+use Rattle.ground.specs.Checks.{Check, check, verdict, NoneOf}
 use Rattle.ground.specs.Answer.{value, after, outcomeBy}
 use Rattle.ground.specs.Lists.{at}
-use Rattle.ground.proofs.Answers.{value-verdict}
+use Rattle.ground.proofs.Answers.{answer-given, value-verdict}
 use Rattle.ground.proofs.Bools.{T-eq}
 use Rattle.ground.proofs.Lists.{at-table}
-use Rattle.ground.proofs.Verdicts.{no-verdicts}
+use Rattle.ground.proofs.Verdicts.{none-verdict, no-verdicts, rest-decides}
 use Rattle.words.specs.Word.{E, kindOf, readAt}
 use Rattle.words.specs.declared.Kind.the-variants.{Ordinary}
-use Rattle.settings.specs.Settings.{fits, ruleOf, settingsChecks}
+use Rattle.settings.specs.Settings.{slots, fits, ruleOf, settingsChecks}
 use Rattle.settings.specs.declared.Turn.{Turn}
 use Rattle.settings.specs.declared.Settings.{Settings}
 use Rattle.settings.proofs.Good.{Good, settings-good, fits-ten}
 use Rattle.paths.specs.Slots.{live}
-use Rattle.paths.proofs.Live.{live-slot}
+use Rattle.paths.proofs.Live.{live-slot, live-zero}
+use Rattle.vote.specs.Asked.{voteAsked}
 use Rattle.book.specs.Book.{Book, held, Sized}
 use Rattle.book.specs.Asked.{heldAsked}
 use Rattle.entering.specs.Run.{leftAt, wordsLeft}
@@ -103,7 +106,18 @@ module _ (turn : Turn) (x : ℤ) (statuses : List ℕ) (words : List ℤ) where
     unfolding fillAsked outcomeBy after
     filled-tells b d = rw (value-verdict tt _ d .0) (filled-held (ruleOf (turn .rack)) X p b ∙ answers)
 
-    -- ---- the card's own book
+    -- ---- the card's own words, and its own book
+
+    -- the checks of a vote at slot 0 that come after those of the settings
+    abbrev rest : List ℤ → List Check
+    rest ws = check 5 (not (eqb (length ws) slots)) ∷ check 8 (not (live (own p) 0)) ∷ []
+
+    -- the plain vote over words that are, on each live path, the word dealt there
+    pub votes-answer : (ws : List ℤ) → length ws ≡ slots → ((k : ℕ) → T (live (own p) k) → at ws k ≡ dealt (ruleOf (turn .rack)) X k p) → voteAsked (own p) ws 0 ≡ value w
+    unfolding voteAsked
+    votes-answer ws long h =
+        let passes : NoneOf (rest ws) = (ap not (eq-eqb (length ws) slots long), (ap not (T-eq (live (own p) 0) (live-zero (own p))), tt)) in
+        sym (answer-given (sym (rest-decides (settingsChecks (own p)) (rest ws) tt checked ∙ none-verdict (rest ws) passes)) refl (sym (answer-from (ruleOf (turn .rack)) X p ws h ∙ answers)))
 
     -- the held answer after a run whose accepted words leave, on each live path, the word dealt there
     pub holds-answer : (b : Book) → Sized b → (xs : List Arrival) → ((k : ℕ) → T (live (own p) k) → leftAt (own p) k (entriesOf (own p) xs) E ≡ dealt (ruleOf (turn .rack)) X k p) → heldAsked (openArrived (own p) b xs) ≡ value w
@@ -122,6 +136,9 @@ module _ (turn : Turn) (x : ℤ) (statuses : List ℕ) (words : List ℤ) where
   tell-same e f {p} {q} t u = sym (answers t) ∙ demand t .agree (demand t .bound-says .1 (e, f)) p q (card t) (card u) ∙ answers u
 
   -- what the bound test says
-  pub bound-is : boundAsked (turn .rack) statuses ≡ value true → (2 * a X + 2 * s X + c X + m X < n X) × (a X ≤ m X)
+  pub bound-is : (b : Bool) → boundAsked (turn .rack) statuses ≡ value b → (b ≡ true) ↔ ((2 * a X + 2 * s X + c X + m X < n X) × (a X ≤ m X))
   unfolding boundAsked
-  bound-is e = bounded-says (turn .rack) (statusesOf statuses) .0 (value-verdict _ _ e .1)
+  bound-is b e =
+      let says = bounded-says (turn .rack) (statusesOf statuses) in
+      let is = value-verdict _ _ e .1 in
+      (λ t. says .0 (is ∙ t), λ h. sym is ∙ says .1 h)

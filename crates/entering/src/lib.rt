@@ -2,6 +2,7 @@
 use ground::Done;
 use ground::refusal;
 use settings::Settings;
+use vote::REPORTS;
 use words::E;
 ghost use mathlib.Core.Path.{_≡_};
 ghost use mathlib.Core.List.{_∷_};
@@ -17,9 +18,6 @@ ghost use Rattle.book.specs.Book.{bookOf};
 ghost use Rattle.entering.specs.Entered.{holds, remadeAlong};
 ghost use Rattle.entering.specs.Asked.{enterAsked};
 ghost use Rattle.entering.specs.Remaking.{heldVotes, memberRemade, Remakes, Enters};
-
-// An own report, and one from each of the ten cards.
-const REPORTS: usize = Settings::MAX_CARDS + 1;
 
 // Puts the held votes one relay longer than slot k, by each member and read at level d, after the own report, and answers how many reports there are.
 fn gather(

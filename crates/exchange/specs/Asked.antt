@@ -14,9 +14,13 @@ use Rattle.words.specs.declared.Kind.the-variants.{Ordinary, Missing, Bad}
 use Rattle.settings.specs.Settings.{mostCards, fits}
 use Rattle.settings.specs.declared.Rack.{Rack}
 
--- ten status bytes, and a table of 11,110 words
+-- the words of a table: one for each slot and receiver
+abbrev pub tableWords : ℕ
+tableWords = 11110
+
+-- ten status bytes, and a whole table
 abbrev pub inputsLong : List ℕ → List ℤ → Bool
-inputsLong statuses words = eqb (length statuses) mostCards && eqb (length words) 11110
+inputsLong statuses words = eqb (length statuses) mostCards && eqb (length words) tableWords
 
 -- a status byte is over 3, or not 0 from card n up
 unfoldable pub statusBad : Rack → List ℕ → ℕ → Bool

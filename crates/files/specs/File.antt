@@ -14,7 +14,8 @@ use Rattle.ground.specs.Lists.{table, someOf}
 use Rattle.settings.specs.Settings.{mostCards, slots, turnChecks}
 use Rattle.settings.specs.declared.Turn.{Turn}
 use Rattle.exchange.specs.Exchange.{Exchange, exchange}
-use Rattle.exchange.specs.Asked.{statusChecks}
+use Rattle.exchange.specs.Asked.{tableWords, statusChecks}
+use Rattle.files.specs.declared.Exception.{Exception}
 use Rattle.files.specs.declared.Head.{Head}
 use Rattle.files.specs.declared.Headed.{Headed}
 use Rattle.files.specs.declared.Headed.the-variants as headed
@@ -46,18 +47,13 @@ headOf file = record { turn = turnIn file; x = valueIn file }
 abbrev pub start : ℕ → ℕ
 start i = 24 + 7 * i
 
-abbrev pub slotAt : List ℕ → ℕ → ℕ
-slotAt file i = be16 file (start i)
-
-abbrev pub receiverAt : List ℕ → ℕ → ℕ
-receiverAt file i = byte file (start i + 2)
-
-unfoldable pub wordAt : List ℕ → ℕ → ℤ
-wordAt file i = signed32 (be32 file (start i + 3))
+abbrev pub exceptionAt : List ℕ → ℕ → Exception
+exceptionAt file i =
+    record { slot = be16 file (start i); receiver = byte file (start i + 2); word = signed32 (be32 file (start i + 3)) }
 
 -- a slot over 1,110 or a receiver over 9
 unfoldable pub exceptionBad : List ℕ → ℕ → Bool
-exceptionBad file i = leb slots (slotAt file i) || leb mostCards (receiverAt file i)
+exceptionBad file i = leb slots (exceptionAt file i .slot) || leb mostCards (exceptionAt file i .receiver)
 
 abbrev pub exceptionsBad : List ℕ → Bool
 exceptionsBad file = someOf (table (exceptions file) 0 (exceptionBad file))
@@ -82,7 +78,9 @@ fileChecks file = shapeChecks file ++ exchangeChecks file ++ check refusal.excep
 
 -- the word for slot k and receiver p stands at place 10 k + p
 abbrev pub toldOne : List ℕ → ℕ → List ℤ → List ℤ
-toldOne file i words = set words (10 * slotAt file i + receiverAt file i) (wordAt file i)
+toldOne file i words =
+    let e = exceptionAt file i in
+    set words (10 * e .slot + e .receiver) (e .word)
 
 -- a table of words after the first c exceptions; a later one for a place replaces an earlier one
 unfoldable pub told : List ℕ → ℕ → List ℤ → List ℤ
@@ -91,7 +89,7 @@ told file (suc c) words = toldOne file c (told file c words)
 
 -- table words not named are E
 unfoldable pub allMissing : List ℤ
-allMissing = replicate 11110 E
+allMissing = replicate tableWords E
 
 abbrev pub tableOf : List ℕ → List ℤ
 tableOf file = told file (exceptions file) allMissing

@@ -16,7 +16,7 @@ const VERSION: u16 = 1;
 // The bytes before the exceptions, and of each exception.
 const HEAD: usize = 24;
 
-const EXCEPTION: usize = 7;
+const EXCEPTION_SIZE: usize = 7;
 
 const MOST_EXCEPTIONS: usize = 64;
 
@@ -29,6 +29,13 @@ pub struct Head {
 pub enum Headed {
     Head(Head),
     Refused(u8),
+}
+
+// A word for a slot and a receiver.
+struct Exception {
+    slot: usize,
+    receiver: usize,
+    word: i32,
 }
 
 fn head_of(file: &[u8]) -> Head
@@ -55,14 +62,25 @@ fn exceptions(file: &[u8]) -> usize
     bytes::get16(file, 22) as usize
 }
 
+// The exception that the file has at this place, counted from 0; two bytes hold its slot, one its receiver.
+fn exception_at(file: &[u8], i: usize) -> Exception
+    requires { ⌜ i < 65536 ⌝ }
+    ensures { λ r. ⌜ (r ≡ spec.exceptionAt (now (file .entry)) i) × (r .slot < 65536) × (r .receiver < 256) ⌝ }
+{
+    let at = HEAD + EXCEPTION_SIZE * i;
+    Exception {
+        slot: bytes::get16(file, at) as usize,
+        receiver: bytes::byte_at(file, at + 2) as usize,
+        word: bytes::from_bits(bytes::get32(file, at + 3)),
+    }
+}
+
 fn exception_bad(file: &[u8], i: usize) -> bool
     requires { ⌜ i < 65536 ⌝ }
     ensures { λ r. ⌜ r ≡ spec.exceptionBad (now (file .entry)) i ⌝ }
 {
-    let at = HEAD + EXCEPTION * i;
-    let slot = bytes::get16(file, at) as usize;
-    let receiver = bytes::byte_at(file, at + 2) as usize;
-    (Settings::SLOTS <= slot) | (Settings::MAX_CARDS <= receiver)
+    let e = exception_at(file, i);
+    (Settings::SLOTS <= e.slot) | (Settings::MAX_CARDS <= e.receiver)
 }
 
 fn exceptions_bad(file: &[u8]) -> bool
@@ -89,7 +107,7 @@ fn shape_refused(file: &[u8]) -> u8
                 refusal::when(bytes::get16(file, 3) != VERSION, refusal::VERSION),
                 refusal::first(
                     refusal::when(MOST_EXCEPTIONS < number, refusal::EXCEPTION),
-                    refusal::when(file.len() != HEAD + EXCEPTION * number, refusal::SIZE),
+                    refusal::when(file.len() != HEAD + EXCEPTION_SIZE * number, refusal::SIZE),
                 ),
             ),
         ),
@@ -130,11 +148,9 @@ fn tell_one(file: &[u8], i: usize, table: &mut [i32])
     requires { ⌜ i < 65536 ⌝ }
     ensures { λ r. ⌜ now (table .exit) ≡ spec.toldOne (now (file .entry)) i (now (table .entry)) ⌝ }
 {
-    let at = HEAD + EXCEPTION * i;
-    let slot = bytes::get16(file, at) as usize;
-    let receiver = bytes::byte_at(file, at + 2) as usize;
-    let word = bytes::from_bits(bytes::get32(file, at + 3));
-    let place = 10 * slot + receiver;
+    let e = exception_at(file, i);
+    let place = 10 * e.slot + e.receiver;
+    let word = e.word;
     if place < table.len() {
         table[place] = word;
     }

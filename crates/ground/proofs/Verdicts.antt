@@ -1,7 +1,7 @@
 -- Laws of checks in order.
 use Prim.Native.Nat.{ℕ, zero, suc, _<_}
 use mathlib.Core.Path.{_≡_, refl, sym, ap, ap₂, _∙_}
-use mathlib.Core.Bool.{Bool, true, false, cond, _&&_}
+use mathlib.Core.Bool.{Bool, true, false, cond, not, _&&_}
 use mathlib.Core.List.{List, [], _∷_, _++_}
 use native.Mathlib.Omega.{arith}
 use lib.Dec.{T, ltb, ltb→lt}
@@ -84,6 +84,11 @@ module _ (cs ds : List Check) (p : T (proper cs)) where
       go : (v : ℕ) → verdict cs ≡ v → next (verdict cs) (verdict ds) ≡ 0 → (verdict cs ≡ 0) × (verdict ds ≡ 0)
       go zero q h = (q, rw q at h)
       go (suc v) q h = let z : suc v ≡ 0 = rw q at h in absurd (omega arith)
+
+-- a check after others, by a test that is the same: it decides where none of them applies
+pub last-decides : (cs : List Check) → T (proper cs) → (k : ℕ) (b : Bool) {no : ℕ} {r fit : Bool} → no ≡ verdict cs → no ≡ 0 → r ≡ fit → not r ≡ b → cond b k 0 ≡ verdict (cs ++ check k (not fit) ∷ [])
+unfolding verdict
+last-decides cs p k b e z f t = ap (λ (b : Bool). cond b k 0) (sym t ∙ ap not f) ∙ sym (rest-decides cs _ p (sym e ∙ z))
 
 -- two lists with the same verdict are as good before a third
 pub same-first : (cs ds es : List Check) → T (proper cs) → T (proper ds) → verdict cs ≡ verdict ds → verdict (cs ++ es) ≡ verdict (ds ++ es)

@@ -1,6 +1,7 @@
 // Document 01, 'The book': every live vote made again from the words.
 use ground::Done;
 use settings::Settings;
+use vote::REPORTS;
 use words::E;
 ghost use mathlib.Core.Path.{_≡_};
 ghost use Prim.Native.Nat.{_+_};
@@ -12,9 +13,6 @@ ghost use Rattle.settings.specs.Settings.{ruleOf};
 ghost use Rattle.book.specs.Book.{bookOf};
 ghost use Rattle.refilling.specs.Refilled.{refilledVotes, refillAsked};
 ghost use Rattle.refilling.specs.RefillOrder.{Fills, Refills, Refilling, RefillingMembers, RefillingLast};
-
-// An own report, and one from each of the ten cards.
-const REPORTS: usize = Settings::MAX_CARDS + 1;
 
 pub fn refill(s: Settings, words: &[i32], votes: &mut [i32]) -> Done
     ensures { λ r. ⌜ outcome (ofDone r) (bookOf (now (words .entry)) (now (votes .exit))) ≡ refillAsked s (bookOf (now (words .entry)) (now (votes .entry))) ⌝ }

@@ -1,4 +1,3 @@
 pub mod Twenty
 pub mod Good
-pub mod Last
 pub mod Fixed

@@ -17,7 +17,7 @@ ghost use Rattle.vote.specs.Members.{memberVote, membersVotes, Asked, Wh
 ghost use Rattle.vote.specs.Asked.{wordsChecks, voteAsked, answerAsked};
 
 // An own report, and one from each of the ten cards.
-const REPORTS: usize = Settings::MAX_CARDS + 1;
+pub const REPORTS: usize = Settings::MAX_CARDS + 1;
 
 // The vote at slot k of level d with so many rounds left; `members` are the cards that may still relay.
 fn instance(

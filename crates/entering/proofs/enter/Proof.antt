@@ -1,19 +1,18 @@
 -- `entering::enter` meets its contract: the verdict decides; the word is stored, and the votes re-made on the way up with what the slot's path has.
 use Prim.Native.Nat.{_<_}
 use mathlib.Core.Path.{_≡_, refl, sym, ap, ap₂, _∙_}
-use mathlib.Core.Bool.{Bool, true, false, not}
-use mathlib.Core.List.{List, [], _∷_}
+use mathlib.Core.Bool.{Bool, true, false, cond, not}
+use mathlib.Core.List.{List}
 use native.Mathlib.Omega.{arith}
 use borrow.Author.Needs.{needs, sfits-of}
-use borrow.Author.Tests.{not-true, not-false}
 use denote.Ref.{now}
 use lib.IntN.{ℤ}
 use lib.ListN.{length-set, set}
-use Rattle.ground.specs.Checks.{check, verdict}
+use Rattle.ground.specs.Checks.{verdict}
 use Rattle.ground.specs.Lists.{at}
 use Rattle.ground.proofs.Answers.{outcome-refused, outcome-done}
 use Rattle.ground.proofs.Bits.{back, back-is}
-use Rattle.ground.proofs.Verdicts.{rest-decides, still-refused}
+use Rattle.ground.proofs.Verdicts.{still-refused, last-decides}
 use Rattle.settings.specs.Settings.{ruleOf}
 use Rattle.paths.specs.Slots.{way, membersOf}
 use Rattle.paths.proofs.Live.{live-slot}
@@ -53,21 +52,18 @@ same-length-4 : tie.Need-same-length-4
 same-length-4 c = search needs
 
 -- where the book is not refused, the slot decides
-told : (c : tie.After-live-in) (b : Bool) → c .live-in .result ≡ b → let a = c .before .before .before .before .before .before .before .args in verdict (slotChecks (a .s) (bookOf (now (a .words)) (now (a .votes))) (a .slot)) ≡ verdict (check 8 (not b) ∷ [])
+told : (c : tie.After-live-in) (b : Bool) → not (c .live-in .result) ≡ b → let a = c .before .before .before .before .before .before .before .args in cond b 8 0 ≡ verdict (slotChecks (a .s) (bookOf (now (a .words)) (now (a .votes))) (a .slot))
 told c b e =
     let first = c .before .before in
-    let none = first .before in
-    let a = none .before .before .before .before .args in
-    rest-decides (bookChecks (a .s) (bookOf (now (a .words)) (now (a .votes)))) _ tt (sym (none .before .book-refused .ensures) ∙ none .if1 .left)
-    ∙ ap (λ (b : Bool). verdict (check 8 (not b) ∷ [])) (sym (in-tells (a .s) (a .slot) (first .may-relay .ensures) (c .live-in .ensures)) ∙ e)
+    let good = first .before in
+    let a = good .before .before .before .before .args in
+    last-decides (bookChecks (a .s) (bookOf (now (a .words)) (now (a .votes)))) tt 8 b (good .before .book-refused .ensures) (good .if1 .left) (in-tells (a .s) (a .slot) (first .may-relay .ensures) (c .live-in .ensures)) e
 
 returns-2 : tie.Need-returns-2
-unfolding verdict
-returns-2 c = outcome-refused {no = 8} (sym (told (c .before) false (not-true _ (c .if2 .taken)))) (λ z. omega arith) _ _
+returns-2 c = outcome-refused (told (c .before) true (c .if2 .taken)) (λ z. omega arith) _ _
 
 none : (c : tie.Else2) → let a = c .before .before .before .before .before .before .before .before .args in verdict (slotChecks (a .s) (bookOf (now (a .words)) (now (a .votes))) (a .slot)) ≡ 0
-unfolding verdict
-none c = told (c .before) true (not-false _ (c .if2 .left))
+none c = sym (told (c .before) false (c .if2 .left))
 
 -- what an entering that is not refused is given
 asked : (c : tie.Else2) → let a = c .before .before .before .before .before .before .before .before .args in Enters (a .s) (now (a .words)) (now (a .votes)) (membersOf (a .s) (a .slot)) (a .slot)

@@ -1,9 +1,8 @@
 -- `settings::settings_refused` meets its contract: the verdict on the turn, then the own card.
 use borrow.Author.Needs.{needs}
 use mathlib.Core.Bool.{true, false}
-use Rattle.ground.proofs.Verdicts.{still-refused}
+use Rattle.ground.proofs.Verdicts.{still-refused, last-decides}
 use Rattle.settings.specs.Settings.{turnOf, turnChecks}
-use Rattle.settings.proofs.Last.{last-decides}
 use Rattle.settings.proofs.settings_refused.Statement.{statement}
 use Rattle.settings.proofs.settings_refused.Tie as tie
 

@@ -1,9 +1,8 @@
 -- `settings::turn_refused` meets its contract: the verdict on the rack, then the sender.
 use borrow.Author.Needs.{needs}
 use mathlib.Core.Bool.{true, false}
-use Rattle.ground.proofs.Verdicts.{still-refused}
+use Rattle.ground.proofs.Verdicts.{still-refused, last-decides}
 use Rattle.settings.specs.Settings.{rackChecks}
-use Rattle.settings.proofs.Last.{last-decides}
 use Rattle.settings.proofs.turn_refused.Statement.{statement}
 use Rattle.settings.proofs.turn_refused.Tie as tie
 
