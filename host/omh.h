@@ -28,6 +28,9 @@
 extern "C" {
 #endif
 
+/* The version of header and archive, stated here alone. */
+#define OMH_VERSION "1.0.0"
+
 enum {
     OMH_CARDS = 10,     /* the greatest number of cards */
     OMH_ROUNDS = 3,     /* the greatest number of rounds of relay */
