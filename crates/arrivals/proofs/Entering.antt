@@ -13,10 +13,10 @@ use Rattle.ground.specs.Lists.{all}
 use Rattle.ground.proofs.Bools.{and-left, and-right}
 use Rattle.ground.proofs.Verdicts.{joined, rest-decides, first-decides, still-refused, same-first}
 use Rattle.ground.proofs.Answers.{outcome-refused, value-verdict, refused-verdict}
-use Rattle.settings.specs.Settings.{ruleOf}
 use Rattle.settings.specs.declared.Settings.{Settings}
 use Rattle.paths.specs.Asked.{used, slotAsked}
 use Rattle.paths.proofs.Asking.{slot-good}
+use Rattle.vote.specs.Vote.{ruleOf}
 use Rattle.book.specs.Book.{Book}
 use Rattle.book.specs.Asked.{bookChecks}
 use Rattle.entering.specs.Entered.{entered}

@@ -14,10 +14,10 @@ use Rattle.ground.proofs.Bools.{cond-case}
 use Rattle.ground.proofs.Verdicts.{no-verdict, no-verdicts}
 use Rattle.ground.proofs.Answers.{value-verdict, refused-verdict, refused-leaves}
 use Rattle.words.proofs.Lawful.{omh-lawful}
-use Rattle.settings.specs.Settings.{ruleOf, settingsChecks}
+use Rattle.settings.specs.Settings.{settingsChecks}
 use Rattle.settings.specs.declared.Settings.{Settings}
 use Rattle.paths.specs.Slots.{live}
-use Rattle.vote.specs.Vote.{vote}
+use Rattle.vote.specs.Vote.{ruleOf, vote}
 use Rattle.book.specs.Book.{Book, Sized, opened}
 use Rattle.book.specs.Asked.{bookChecks, heldAsked}
 use Rattle.book.proofs.Asking.{opened-sized}

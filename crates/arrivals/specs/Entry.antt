@@ -6,10 +6,10 @@ use lib.Dec.{eqb}
 use Rattle.ground.specs.Refusal as refusal
 use Rattle.ground.specs.Checks.{Check, check, verdict}
 use Rattle.ground.specs.Answer.{Answer, Outcome, outcomeBy}
-use Rattle.settings.specs.Settings.{ruleOf}
 use Rattle.settings.specs.declared.Settings.{Settings}
 use Rattle.paths.specs.Slots.{slotOf, live}
 use Rattle.paths.specs.Asked.{used}
+use Rattle.vote.specs.Vote.{ruleOf}
 use Rattle.book.specs.Book.{Book}
 use Rattle.book.specs.Asked.{bookChecks}
 use Rattle.entering.specs.Entered.{entered}

@@ -24,7 +24,8 @@ use Rattle.vote.specs.Members.{memberVote}
 use Rattle.vote.proofs.Handed.{own-vote, handed-vote}
 use Rattle.exchange.specs.Exchange.{Exchange, exchange, statusOf, sent, dealtAt, dealt, received, answerOf}
 use Rattle.exchange.proofs.Dealing.{dealt-below, at-received}
-use Rattle.bench.specs.Dealing.{sentTo, dealtVote, dealtVotes}
+use Rattle.exchange.specs.Sending.{sentTo}
+use Rattle.bench.specs.Dealing.{dealtVote, dealtVotes}
 
 inner : (r k : ℕ) → k < room (suc r) → k < 111
 inner zero k h = h

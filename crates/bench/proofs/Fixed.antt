@@ -8,24 +8,13 @@ use Rattle.ground.specs.Fixes.{Fixes}
 use Rattle.ground.specs.declared.Told.{Told}
 use Rattle.ground.specs.declared.Done.{Done}
 use Rattle.ground.proofs.Answers.{told-apart, outcome-apart}
-use Rattle.book.specs.Book.{Book, bookOf}
-use Rattle.bench.proofs.word_for.Kinds as word-for
-use Rattle.bench.proofs.word_for.Reads as word-for-says
 use Rattle.bench.proofs.answer_for.Kinds as answer-for
 use Rattle.bench.proofs.answer_for.Reads as answer-for-says
 use Rattle.bench.proofs.all_answers.Kinds as all-answers
 use Rattle.bench.proofs.all_answers.Reads as all-answers-says
-use Rattle.bench.proofs.fill.Kinds as fill
-use Rattle.bench.proofs.fill.Reads as fill-says
-
-pub word-for-fixed : Fixes 2 word-for.ps word-for.r word-for-says.Post Told (λ κs x s. x)
-word-for-fixed κs a x y s t p q = told-apart x y (p ∙ sym q)
 
 pub answer-for-fixed : Fixes 2 answer-for.ps answer-for.r answer-for-says.Post Told (λ κs x s. x)
 answer-for-fixed κs a x y s t p q = told-apart x y (p ∙ sym q)
 
 pub all-answers-fixed : Fixes 3 all-answers.ps all-answers.r all-answers-says.Post (Outcome Done (List ℤ)) (λ κs x s. outcome x (now (s .1 .1 .1 .1 .0)))
 all-answers-fixed κs a x y s t p q = outcome-apart x y (p ∙ sym q)
-
-pub fill-fixed : Fixes 4 fill.ps fill.r fill-says.Post (Outcome Done Book) (λ κs x s. outcome x (bookOf (now (s .1 .1 .1 .1 .0)) (now (s .1 .1 .1 .1 .1 .0))))
-fill-fixed κs a x y s t p q = outcome-apart x y (p ∙ sym q)

@@ -1,4 +1,2 @@
 pub mod Dealing
-pub mod Asking
-pub mod Filling
 pub mod Fixed

@@ -1,35 +1,31 @@
--- Document 01, 'The exchange on the bench', as it is asked of the functions.
+-- Document 01, 'The exchange on the bench': one card's answer and all answers, as they are asked of the functions.
 use Prim.Native.Nat.{ℕ}
-use mathlib.Core.Bool.{not, _&&_}
-use mathlib.Core.List.{List, [], _∷_, _++_}
+use mathlib.Core.Bool.{cond, _&&_}
+use mathlib.Core.List.{List, _++_}
 use lib.Dec.{eqb}
 use lib.IntN.{ℤ}
 use lib.ListN.{length}
-use Rattle.ground.specs.Refusal as refusal
-use Rattle.ground.specs.Checks.{Check, check, verdict}
+use Rattle.ground.specs.Checks.{Check, verdict}
 use Rattle.ground.specs.Answer.{Answer, answer, Outcome, outcomeBy}
-use Rattle.settings.specs.Settings.{mostCards, ruleOf, turnOf, turnChecks, settingsChecks}
+use Rattle.ground.specs.Lists.{at, table}
+use Rattle.words.specs.Rule.{Rule}
+use Rattle.settings.specs.Settings.{mostCards, fits, turnOf, turnChecks}
 use Rattle.settings.specs.declared.Turn.{Turn}
 use Rattle.settings.specs.declared.Settings.{Settings}
-use Rattle.paths.specs.Slots.{live}
-use Rattle.book.specs.Book.{Book, sized}
-use Rattle.exchange.specs.Exchange.{exchange, dealt, answerOf}
-use Rattle.exchange.specs.Asked.{inputsLong, valueChecks}
-use Rattle.bench.specs.Bench.{answersOf, filledFor}
+use Rattle.vote.specs.Vote.{ruleOf}
+use Rattle.exchange.specs.Exchange.{Exchange, exchange, answerOf}
+use Rattle.exchange.specs.Asked.{inputsLong, valueChecks, cardChecks}
 
 -- one card's answer: 1 to 5, 7, 6
 abbrev pub answerChecks : Settings → ℤ → List ℕ → List ℤ → List Check
-answerChecks s x statuses words = settingsChecks s ++ valueChecks (s .rack) x statuses (inputsLong statuses words)
+answerChecks s x statuses words = cardChecks s x statuses (inputsLong statuses words)
 
 unfoldable pub answerForAsked : Settings → ℤ → List ℕ → List ℤ → Answer ℤ
 answerForAsked s x statuses words = answer (verdict (answerChecks s x statuses words)) (answerOf (ruleOf (s .rack)) (exchange (turnOf s) x statuses words) (s .p))
 
--- one word: and then 8
-abbrev pub wordChecks : Settings → ℤ → List ℕ → List ℤ → ℕ → List Check
-wordChecks s x statuses words k = answerChecks s x statuses words ++ check refusal.path (not (live s k)) ∷ []
-
-unfoldable pub wordAsked : Settings → ℤ → List ℕ → List ℤ → ℕ → Answer ℤ
-wordAsked s x statuses words k = answer (verdict (wordChecks s x statuses words k)) (dealt (ruleOf (s .rack)) (exchange (turnOf s) x statuses words) k (s .p))
+-- all answers: each card's in its place of a list of ten, the rest untouched
+unfoldable pub answersOf : Rule → Exchange → List ℤ → List ℤ
+answersOf R X before = table mostCards 0 (λ p. cond (fits (X .rack) p) (answerOf R X p) (at before p))
 
 -- all answers: 1, 2, 3, 5, 7, 6; the list has ten places
 abbrev pub answersChecks : Turn → ℤ → List ℕ → List ℤ → List ℤ → List Check
@@ -39,11 +35,3 @@ answersChecks turn x statuses words list =
 unfoldable pub answersAsked : Turn → ℤ → List ℕ → List ℤ → List ℤ → Outcome (Answer (Unit {0})) (List ℤ)
 answersAsked turn x statuses words list =
     outcomeBy (verdict (answersChecks turn x statuses words list)) list (answersOf (ruleOf (turn .rack)) (exchange turn x statuses words) list)
-
--- a book filled for p: 1 to 5, 7, 6; both of its lists whole
-abbrev pub fillChecks : Settings → ℤ → List ℕ → List ℤ → Book → List Check
-fillChecks s x statuses words b = settingsChecks s ++ valueChecks (s .rack) x statuses (inputsLong statuses words && sized b)
-
-unfoldable pub fillAsked : Settings → ℤ → List ℕ → List ℤ → Book → Outcome (Answer (Unit {0})) Book
-fillAsked s x statuses words b =
-    outcomeBy (verdict (fillChecks s x statuses words b)) b (filledFor (ruleOf (s .rack)) (exchange (turnOf s) x statuses words) (s .p) b)

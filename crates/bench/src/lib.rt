@@ -1,4 +1,4 @@
-// Document 01, 'The exchange on the bench': one word, one card's answer, all answers, and a book filled.
+// Document 01, 'The exchange on the bench': one card's answer, and all answers.
 use ground::Done;
 use ground::Told;
 use ground::refusal;
@@ -7,90 +7,16 @@ use settings::Turn;
 use vote::REPORTS;
 use words::E;
 ghost use mathlib.Core.Path.{_≡_};
-ghost use mathlib.Core.List.{_++_};
 ghost use Prim.Native.Nat.{_+_, _≤_, _<_};
 ghost use lib.ListN.{length};
-ghost use Rattle.ground.specs.Checks.{verdict};
 ghost use Rattle.ground.specs.Answer.{outcome, ofTold, ofDone};
-ghost use Rattle.words.specs.Word.{readAt, wrapped};
 ghost use Rattle.words.specs.Rule.{omh};
-ghost use Rattle.settings.specs.Settings.{slots, ruleOf, turnOf, settingsChecks};
-ghost use Rattle.settings.specs.declared.Rack.{Rack};
-ghost use Rattle.vote.specs.Vote.{decided};
-ghost use Rattle.book.specs.Book.{bookOf};
-ghost use Rattle.exchange.specs.Exchange.{exchange, dealt, answerOf};
-ghost use Rattle.exchange.specs.Asked.{tableWords, valueChecks};
-ghost use Rattle.bench.specs.Bench.{dealtOver, answersOf};
-ghost use Rattle.bench.specs.Dealing.{sentTo, Deals, Dealing, dealtVote, dealtVotes};
-ghost use Rattle.bench.specs.Asked.{wordAsked, answerForAsked, answersAsked, fillAsked};
-
-// The refusal number of settings and of what an exchange is given; 0 for none.
-fn card_refused(s: Settings, x: i32, statuses: &[u8], long: bool) -> u8
-    ensures { λ r. ⌜ r ≡ verdict (settingsChecks s ++ valueChecks (s .rack) x (now (statuses .entry)) long) ⌝ }
-{
-    refusal::first(
-        settings::settings_refused(s),
-        exchange::values_refused(s.rack, x, statuses, long),
-    )
-}
-
-// What card p receives at slot k from a card of this status, which sends `word` if it is good.
-fn sent_by(status: u8, word: i32, table: &[i32], k: usize, p: usize) -> i32
-    requires { ⌜ (length (now table) ≡ tableWords) × (k < slots) × (p < 10) ⌝ }
-    ensures { λ r. ⌜ r ≡ sentTo status word (now (table .entry)) k p ⌝ }
-{
-    let first = 10 * k;
-    let own = first + p;
-    match status {
-        0 => word,
-        1 => table[own],
-        2 => table[first],
-        _ => E,
-    }
-}
-
-// What a good card sends on of a word that it received at this level.
-fn relayed(level: usize, word: i32) -> i32
-    ensures { λ r. ⌜ r ≡ wrapped (readAt level word) ⌝ }
-{
-    words::wrap(words::read_at(level, word))
-}
-
-// The word that card p receives at slot k.
-fn dealt_at(t: usize, x: i32, statuses: &[u8], table: &[i32], k: usize, p: usize) -> i32
-    requires { ⌜ Deals t (now statuses) (now table) × (k < slots) × (p < 10) ⌝ }
-    ensures { λ r. ⌜ ((rack : Rack) → r ≡ dealt omh (exchange (record { rack = rack; t = t }) x (now (statuses .entry)) (now (table .entry))) k p) ⌝ }
-{
-    if k == 0 {
-        return sent_by(statuses[t], x, table, k, p);
-    }
-    let q = paths::last_relay(k);
-    let above = paths::above(k);
-    let word = dealt_at(t, x, statuses, table, above, q);
-    sent_by(
-        statuses[q],
-        relayed(paths::level_of(above), word),
-        table,
-        k,
-        p,
-    )
-}
-
-// The word that the own card receives on the path at a slot.
-pub fn word_for(s: Settings, x: i32, statuses: &[u8], table: &[i32], slot: usize) -> Told
-    ensures { λ r. ⌜ ofTold r ≡ wordAsked s x (now (statuses .entry)) (now (table .entry)) slot ⌝ }
-{
-    let mut members = paths::may_relay(s);
-    let live = paths::live_in(s, &mut members, slot);
-    let no = refusal::first(
-        card_refused(s, x, statuses, exchange::inputs_long(statuses, table)),
-        refusal::when(!live, refusal::PATH),
-    );
-    if no != 0 {
-        return Told::Refused(no);
-    }
-    Told::Word(dealt_at(s.t, x, statuses, table, slot, s.p))
-}
+ghost use Rattle.settings.specs.Settings.{turnOf};
+ghost use Rattle.vote.specs.Vote.{ruleOf, decided};
+ghost use Rattle.exchange.specs.Exchange.{exchange, answerOf};
+ghost use Rattle.exchange.specs.Sending.{Deals};
+ghost use Rattle.bench.specs.Dealing.{Dealing, dealtVote, dealtVotes};
+ghost use Rattle.bench.specs.Asked.{answersOf, answerForAsked, answersAsked};
 
 // The vote of card p at slot k of level d, on which a card of this status sends, `word` if it is good. So many rounds are left; `members` are the cards that may still relay.
 fn vote_dealt(
@@ -104,10 +30,11 @@ fn vote_dealt(
     status: u8,
     word: i32,
 ) -> i32
-    requires { ⌜ Dealing (now statuses) (now table) p (now members) left d k ⌝ }
+    requires { ⌜ Dealing (now statuses) p (now members) left d k ⌝ }
     ensures { λ r. ⌜ (r ≡ dealtVote omh (now (statuses .entry)) (now (table .entry)) p (now (members .entry)) left d k status word) × (now (members .exit) ≡ now (members .entry)) ⌝ }
 {
-    let own = words::read_at(d, sent_by(status, word, table, k, p));
+    let first = 10 * k;
+    let own = words::read_at(d, exchange::sent_by(status, word, table, first + p, first));
     if left == 0 {
         return own;
     }
@@ -138,19 +65,20 @@ fn over_dealt(
     status: u8,
     word: i32,
 ) -> i32
-    requires { ⌜ Dealing (now statuses) (now table) p (now members) (left + 1) d k ⌝ }
+    requires { ⌜ Dealing (now statuses) p (now members) (left + 1) d k ⌝ }
     ensures { λ r. ⌜ (r ≡ decided omh own (dealtVotes omh (now (statuses .entry)) (now (table .entry)) p (now (members .entry)) left d k status word 10)) × (now (members .exit) ≡ now (members .entry)) ⌝ }
 {
     let mut reports = [E; REPORTS];
     reports[0] = words::wrap(own);
     let mut count: usize = 1;
+    let first = 10 * k;
     for q in 0..Settings::MAX_CARDS {
         if members[q] {
             members[q] = false;
             let sender = statuses[q];
             // Only a good card's word is looked at.
             let sends = if sender == 0 {
-                relayed(d, sent_by(status, word, table, k, q))
+                exchange::relayed(d, exchange::sent_by(status, word, table, first + q, first))
             } else {
                 E
             };
@@ -161,7 +89,7 @@ fn over_dealt(
                 members,
                 left,
                 d + 1,
-                10 * k + 1 + q,
+                first + 1 + q,
                 sender,
                 sends,
             );
@@ -175,14 +103,14 @@ fn over_dealt(
 
 // The answer of the own card, of settings that are not refused.
 fn dealt_answer(s: Settings, x: i32, statuses: &[u8], table: &[i32]) -> i32
-    requires { ⌜ Deals (s .t) (now statuses) (now table) × (s .rack .m ≤ 3) × (s .p < 10) ⌝ }
+    requires { ⌜ Deals (s .t) (now statuses) × (s .rack .m ≤ 3) × (s .p < 10) ⌝ }
     ensures { λ r. ⌜ r ≡ answerOf (ruleOf (s .rack)) (exchange (turnOf s) x (now (statuses .entry)) (now (table .entry))) (s .p) ⌝ }
 {
     let mut members = paths::may_relay(s);
     let left = paths::rounds_left(s, 0);
     let t = s.t;
     let status = statuses[t];
-    let own = words::read_at(0, sent_by(status, x, table, 0, s.p));
+    let own = words::read_at(0, exchange::sent_by(status, x, table, s.p, 0));
     if left == 0 {
         return own;
     }
@@ -204,7 +132,7 @@ fn dealt_answer(s: Settings, x: i32, statuses: &[u8], table: &[i32]) -> i32
 pub fn answer_for(s: Settings, x: i32, statuses: &[u8], table: &[i32]) -> Told
     ensures { λ r. ⌜ ofTold r ≡ answerForAsked s x (now (statuses .entry)) (now (table .entry)) ⌝ }
 {
-    let no = card_refused(s, x, statuses, exchange::inputs_long(statuses, table));
+    let no = exchange::card_refused(s, x, statuses, exchange::inputs_long(statuses, table));
     if no != 0 {
         return Told::Refused(no);
     }
@@ -213,7 +141,7 @@ pub fn answer_for(s: Settings, x: i32, statuses: &[u8], table: &[i32]) -> Told
 
 // Puts the answer of each card of the rack in its place.
 fn answer_all(turn: Turn, x: i32, statuses: &[u8], table: &[i32], answers: &mut [i32])
-    requires { ⌜ Deals (turn .t) (now statuses) (now table) × (turn .rack .m ≤ 3) × (length (now answers) ≡ 10) ⌝ }
+    requires { ⌜ Deals (turn .t) (now statuses) × (turn .rack .m ≤ 3) × (length (now answers) ≡ 10) ⌝ }
     ensures { λ r. ⌜ now (answers .exit) ≡ answersOf (ruleOf (turn .rack)) (exchange turn x (now (statuses .entry)) (now (table .entry))) (now (answers .entry)) ⌝ }
 {
     let rack = turn.rack;
@@ -238,39 +166,4 @@ pub fn all_answers(turn: Turn, x: i32, statuses: &[u8], table: &[i32], answers: 
     }
     answer_all(turn, x, statuses, table, answers);
     Done::Done
-}
-
-// Deals the words of the own card at its live slots.
-fn deal(s: Settings, x: i32, statuses: &[u8], table: &[i32], words: &mut [i32])
-    requires { ⌜ Deals (s .t) (now statuses) (now table) × (s .rack .m ≤ 3) × (s .p < 10) × (length (now words) ≡ slots) ⌝ }
-    ensures { λ r. ⌜ now (words .exit) ≡ dealtOver (ruleOf (s .rack)) (exchange (turnOf s) x (now (statuses .entry)) (now (table .entry))) (s .p) (now (words .entry)) ⌝ }
-{
-    let relays = paths::may_relay(s);
-    for k in 0..Settings::SLOTS {
-        let mut members = relays;
-        if paths::live_in(s, &mut members, k) {
-            words[k] = dealt_at(s.t, x, statuses, table, k, s.p);
-        }
-    }
-}
-
-// Fills a book for the own card.
-pub fn fill(
-    s: Settings,
-    x: i32,
-    statuses: &[u8],
-    table: &[i32],
-    words: &mut [i32],
-    votes: &mut [i32],
-) -> Done
-    ensures { λ r. ⌜ outcome (ofDone r) (bookOf (now (words .exit)) (now (votes .exit))) ≡ fillAsked s x (now (statuses .entry)) (now (table .entry)) (bookOf (now (words .entry)) (now (votes .entry))) ⌝ }
-{
-    let whole = (words.len() == Settings::SLOTS) & (votes.len() == Settings::SLOTS);
-    let long = exchange::inputs_long(statuses, table) & whole;
-    let no = card_refused(s, x, statuses, long);
-    if no != 0 {
-        return Done::Refused(no);
-    }
-    deal(s, x, statuses, table, words);
-    refilling::refill(s, words, votes)
 }

@@ -6,9 +6,10 @@ use lib.IntN.{ℤ}
 use Rattle.ground.specs.Refusal as refusal
 use Rattle.ground.specs.Checks.{Check, check, verdict}
 use Rattle.ground.specs.Answer.{Answer, answer, Outcome, outcomeBy}
-use Rattle.settings.specs.Settings.{ruleOf, settingsChecks}
+use Rattle.settings.specs.Settings.{settingsChecks}
 use Rattle.settings.specs.declared.Settings.{Settings}
 use Rattle.paths.specs.Slots.{live}
+use Rattle.vote.specs.Vote.{ruleOf}
 use Rattle.book.specs.Book.{Book, sized, opened, held}
 
 -- settings, then the lists' length

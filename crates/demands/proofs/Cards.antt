@@ -18,13 +18,14 @@ use Rattle.ground.proofs.Lists.{at-table}
 use Rattle.ground.proofs.Verdicts.{none-verdict, no-verdicts, rest-decides}
 use Rattle.words.specs.Word.{E, kindOf, readAt}
 use Rattle.words.specs.declared.Kind.the-variants.{Ordinary}
-use Rattle.settings.specs.Settings.{slots, fits, ruleOf, settingsChecks}
+use Rattle.settings.specs.Settings.{slots, fits, settingsChecks}
 use Rattle.settings.specs.declared.Turn.{Turn}
 use Rattle.settings.specs.declared.Settings.{Settings}
 use Rattle.settings.proofs.Good.{Good, settings-good, fits-ten}
 use Rattle.paths.specs.Slots.{live}
 use Rattle.paths.proofs.Live.{live-slot, live-zero}
 use Rattle.vote.specs.Asked.{voteAsked}
+use Rattle.vote.specs.Vote.{ruleOf}
 use Rattle.book.specs.Book.{Book, held, Sized}
 use Rattle.book.specs.Asked.{heldAsked}
 use Rattle.entering.specs.Run.{leftAt, wordsLeft}
@@ -34,9 +35,9 @@ use Rattle.exchange.specs.Exchange.{good, symmetric, manifest, statusOf, status
 use Rattle.exchange.specs.Asked.{inputsLong}
 use Rattle.exchange.proofs.Asking.{values-asked}
 use Rattle.exchange.proofs.Dealing.{answer-from}
-use Rattle.bench.specs.Bench.{answersOf}
-use Rattle.bench.specs.Asked.{answerChecks, answerForAsked, answersAsked, fillAsked}
-use Rattle.bench.proofs.Filling.{filled-held}
+use Rattle.bench.specs.Asked.{answersOf, answerChecks, answerForAsked, answersAsked}
+use Rattle.dealing.specs.Asked.{fillAsked}
+use Rattle.dealing.proofs.Filling.{filled-held}
 use Rattle.bound.specs.Bound.{boundAsked}
 use Rattle.bound.proofs.Says.{enough-says, bounded-says}
 use Rattle.agreement.proofs.Demand2.{n, m, a, s, c, GoodCard, Demand2, demand-2}

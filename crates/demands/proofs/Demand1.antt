@@ -13,7 +13,8 @@ use Rattle.frames.specs.Asked.{ofParsed, readChecks, readAsked, writeChecks, wr
 use Rattle.arrivals.specs.Entry.{arrivalChecks, frameAsked}
 use Rattle.exchange.specs.Asked.{statusChecks, valueChecks}
 use Rattle.bench.specs.Asked as bench
-use Rattle.bench.specs.Asked.{wordChecks, wordAsked, answerChecks, answersChecks, answersAsked, fillChecks, fillAsked}
+use Rattle.bench.specs.Asked.{answerChecks, answersChecks, answersAsked}
+use Rattle.dealing.specs.Asked.{wordChecks, wordAsked, fillChecks, fillAsked}
 use Rattle.bound.specs.Bound.{ofBounded, boundChecks, boundAsked}
 use Rattle.files.specs.File.{ofHeaded, fileChecks, fileAsked}
 use Rattle.demands.specs.Refusing.{Refuses, Judged, Counted}
@@ -44,14 +45,14 @@ use Rattle.frames.proofs.write.Kinds as write
 use Rattle.frames.proofs.write.Reads as write-says
 use Rattle.arrivals.proofs.enter.Kinds as enter-frame
 use Rattle.arrivals.proofs.enter.Reads as enter-frame-says
-use Rattle.bench.proofs.word_for.Kinds as word-for
-use Rattle.bench.proofs.word_for.Reads as word-for-says
+use Rattle.dealing.proofs.word_for.Kinds as word-for
+use Rattle.dealing.proofs.word_for.Reads as word-for-says
 use Rattle.bench.proofs.answer_for.Kinds as answer-for
 use Rattle.bench.proofs.answer_for.Reads as answer-for-says
 use Rattle.bench.proofs.all_answers.Kinds as all-answers
 use Rattle.bench.proofs.all_answers.Reads as all-answers-says
-use Rattle.bench.proofs.fill.Kinds as fill
-use Rattle.bench.proofs.fill.Reads as fill-says
+use Rattle.dealing.proofs.fill.Kinds as fill
+use Rattle.dealing.proofs.fill.Reads as fill-says
 use Rattle.bound.proofs.bound.Kinds as bound
 use Rattle.bound.proofs.bound.Reads as bound-says
 use Rattle.files.proofs.read.Kinds as read-file

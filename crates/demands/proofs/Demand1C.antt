@@ -8,7 +8,8 @@ use Rattle.book.specs.Asked.{bookChecks, slotChecks, heldChecks}
 use Rattle.frames.specs.Asked.{readChecks, readAsked, writeChecks, writeAsked}
 use Rattle.arrivals.specs.Entry.{arrivalChecks, frameAsked}
 use Rattle.bench.specs.Asked as bench
-use Rattle.bench.specs.Asked.{wordChecks, wordAsked, answerChecks, answersChecks, answersAsked, fillChecks, fillAsked}
+use Rattle.bench.specs.Asked.{answerChecks, answersChecks, answersAsked}
+use Rattle.dealing.specs.Asked.{wordChecks, wordAsked, fillChecks, fillAsked}
 use Rattle.bound.specs.Bound.{boundChecks, boundAsked}
 use Rattle.omh.specs.Numbers.{rack, turn, frameWith}
 use Rattle.demands.specs.Refusing.{Numbers}

@@ -13,11 +13,12 @@ use Rattle.ground.specs.Bytes.{AllBytes}
 use Rattle.ground.specs.Fixes.{Allows}
 use Rattle.ground.specs.Lists.{at}
 use Rattle.words.specs.Word.{E, readAt}
-use Rattle.settings.specs.Settings.{slots, ruleOf}
+use Rattle.settings.specs.Settings.{slots}
 use Rattle.settings.specs.Asked.{settings}
 use Rattle.settings.specs.declared.Turn.{Turn}
 use Rattle.paths.specs.Slots.{live}
 use Rattle.vote.specs.Asked.{voteAsked}
+use Rattle.vote.specs.Vote.{ruleOf}
 use Rattle.book.specs.Book.{Book, bookOf, held, Sized}
 use Rattle.book.specs.Asked.{heldAsked}
 use Rattle.entering.specs.Run.{leftAt}
@@ -27,7 +28,8 @@ use Rattle.frames.specs.declared.Frame.{Frame}
 use Rattle.frames.proofs.Round as round
 use Rattle.arrivals.specs.Run.{Arrival, entriesOf, openArrived}
 use Rattle.exchange.specs.Exchange.{good, symmetric, manifest, statusesOf, exchange, dealt}
-use Rattle.bench.specs.Asked.{answerForAsked, answersAsked, fillAsked}
+use Rattle.bench.specs.Asked.{answerForAsked, answersAsked}
+use Rattle.dealing.specs.Asked.{fillAsked}
 use Rattle.bound.specs.Bound.{ofBounded, boundAsked}
 use Rattle.agreement.proofs.Demand2.{n, m, a, s, c}
 use Rattle.omh.specs.Numbers as numbers
@@ -43,8 +45,8 @@ use Rattle.bench.proofs.answer_for.Kinds as answer-for
 use Rattle.bench.proofs.answer_for.Reads as answer-for-says
 use Rattle.bench.proofs.all_answers.Kinds as all-answers
 use Rattle.bench.proofs.all_answers.Reads as all-answers-says
-use Rattle.bench.proofs.fill.Kinds as fill
-use Rattle.bench.proofs.fill.Reads as fill-says
+use Rattle.dealing.proofs.fill.Kinds as fill
+use Rattle.dealing.proofs.fill.Reads as fill-says
 use Rattle.bound.proofs.bound.Kinds as bound
 use Rattle.bound.proofs.bound.Reads as bound-says
 use Rattle.omh.proofs.omh_vote_at.Kinds as c-vote-at

@@ -10,11 +10,11 @@ use Rattle.ground.specs.Checks.{verdict}
 use Rattle.ground.specs.Answer.{value, Outcome, outcome, ofTold, ofDone}
 use Rattle.ground.specs.Fixes.{Allows}
 use Rattle.ground.specs.Lists.{at}
-use Rattle.settings.specs.Settings.{ruleOf, settingsChecks}
+use Rattle.settings.specs.Settings.{settingsChecks}
 use Rattle.settings.specs.Asked.{settings}
 use Rattle.settings.specs.declared.Settings.{Settings}
 use Rattle.paths.specs.Slots.{way, live}
-use Rattle.vote.specs.Vote.{vote}
+use Rattle.vote.specs.Vote.{ruleOf, vote}
 use Rattle.book.specs.Book.{Book, bookOf, Sized}
 use Rattle.book.specs.Asked.{openAsked, heldAsked}
 use Rattle.entering.specs.Run.{wordsLeft}

@@ -16,7 +16,8 @@ use Rattle.frames.specs.Asked.{readChecks, writeChecks}
 use Rattle.frames.specs.declared.Frame.{Frame}
 use Rattle.arrivals.specs.Entry.{arrivalChecks}
 use Rattle.exchange.specs.Asked.{statusChecks, valueChecks}
-use Rattle.bench.specs.Asked.{wordChecks, answerChecks, answersChecks, fillChecks}
+use Rattle.bench.specs.Asked.{answerChecks, answersChecks}
+use Rattle.dealing.specs.Asked.{wordChecks, fillChecks}
 use Rattle.bound.specs.Bound.{boundChecks}
 use Rattle.files.specs.File.{fileChecks}
 use Rattle.demands.specs.Refusing.{numbers}

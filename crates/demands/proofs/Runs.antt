@@ -9,10 +9,10 @@ use Rattle.ground.specs.Checks.{verdict}
 use Rattle.ground.specs.Answer.{value, after, outcomeBy}
 use Rattle.ground.specs.Lists.{at}
 use Rattle.ground.proofs.Answers.{value-verdict}
-use Rattle.settings.specs.Settings.{ruleOf, settingsChecks}
+use Rattle.settings.specs.Settings.{settingsChecks}
 use Rattle.settings.specs.declared.Settings.{Settings}
 use Rattle.paths.specs.Slots.{way, live}
-use Rattle.vote.specs.Vote.{vote}
+use Rattle.vote.specs.Vote.{ruleOf, vote}
 use Rattle.book.specs.Book.{Book, Sized}
 use Rattle.book.specs.Asked.{bookChecks}
 use Rattle.entering.specs.Entered.{entered}

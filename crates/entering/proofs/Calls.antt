@@ -13,11 +13,11 @@ use Rattle.ground.specs.Answer.{value, refused, answer, outcome, after, outcome
 use Rattle.ground.proofs.Answers.{answer-given}
 use Rattle.ground.proofs.Verdicts.{none-verdict, rest-decides}
 use Rattle.words.proofs.Lawful.{omh-lawful}
-use Rattle.settings.specs.Settings.{slots, ruleOf, settingsChecks}
+use Rattle.settings.specs.Settings.{slots, settingsChecks}
 use Rattle.settings.specs.declared.Settings.{Settings}
 use Rattle.paths.specs.Slots.{live}
 use Rattle.paths.proofs.Live.{live-zero}
-use Rattle.vote.specs.Vote.{vote}
+use Rattle.vote.specs.Vote.{ruleOf, vote}
 use Rattle.vote.specs.Asked.{answerAsked}
 use Rattle.book.specs.Book.{Book, Sized, opened, held}
 use Rattle.book.specs.Asked.{bookChecks, openAsked, heldAsked}

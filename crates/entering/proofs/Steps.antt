@@ -12,7 +12,7 @@ use lib.Seq.{getD-set-same, getD-set-other}
 use Rattle.ground.proofs.Bools.{T-eq}
 use Rattle.ground.proofs.Lists.{length-table}
 use Rattle.words.specs.Rule.{Rule}
-use Rattle.settings.specs.Settings.{slots, ruleOf}
+use Rattle.settings.specs.Settings.{slots}
 use Rattle.settings.specs.declared.Settings.{Settings}
 use Rattle.paths.specs.Slots.{above, lastRelay, level, wayBy, way, live, lengthens, roundsLeft}
 use Rattle.paths.specs.Walk.{may}
@@ -20,6 +20,7 @@ use Rattle.paths.proofs.Levels.{level-0, level-pos, level-above, below-above, w
 use Rattle.paths.proofs.Live.{live-slot, live-level, live-own, live-above, below-lengthens}
 use Rattle.paths.proofs.Members.{none-next}
 use Rattle.paths.proofs.Handed.{Handed, handed-table, left-other, left-few}
+use Rattle.vote.specs.Vote.{ruleOf}
 use Rattle.entering.specs.Entered.{remade, remadeAlong}
 use Rattle.entering.specs.Remaking.{memberRemade, Remakes, Enters}
 use Rattle.entering.proofs.Leaf.{left-inner, remade-handed}

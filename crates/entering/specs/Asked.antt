@@ -3,8 +3,8 @@ use Prim.Native.Nat.{ℕ}
 use lib.IntN.{ℤ}
 use Rattle.ground.specs.Checks.{verdict}
 use Rattle.ground.specs.Answer.{Answer, Outcome, outcomeBy}
-use Rattle.settings.specs.Settings.{ruleOf}
 use Rattle.settings.specs.declared.Settings.{Settings}
+use Rattle.vote.specs.Vote.{ruleOf}
 use Rattle.book.specs.Book.{Book}
 use Rattle.book.specs.Asked.{slotChecks}
 use Rattle.entering.specs.Entered.{entered}

@@ -1,7 +1,7 @@
 -- Document 01, 'The exchange on the bench': when what it is given is refused.
 use Prim.Native.Nat.{ℕ}
 use mathlib.Core.Bool.{Bool, true, false, not, _&&_, _||_}
-use mathlib.Core.List.{List, [], _∷_}
+use mathlib.Core.List.{List, [], _∷_, _++_}
 use lib.Dec.{eqb, ltb}
 use lib.IntN.{ℤ}
 use lib.ListN.{length, getD}
@@ -11,8 +11,9 @@ use Rattle.ground.specs.Lists.{table, someOf}
 use Rattle.words.specs.Word.{kindOf}
 use Rattle.words.specs.declared.Kind.{Kind}
 use Rattle.words.specs.declared.Kind.the-variants.{Ordinary, Missing, Bad}
-use Rattle.settings.specs.Settings.{mostCards, fits}
+use Rattle.settings.specs.Settings.{mostCards, fits, settingsChecks}
 use Rattle.settings.specs.declared.Rack.{Rack}
+use Rattle.settings.specs.declared.Settings.{Settings}
 
 -- the words of a table: one for each slot and receiver
 abbrev pub tableWords : ℕ
@@ -41,3 +42,7 @@ statusChecks rack x statuses = check refusal.status (statusesBad rack statuses) 
 -- after the settings: the lengths first
 abbrev pub valueChecks : Rack → ℤ → List ℕ → Bool → List Check
 valueChecks rack x statuses long = check refusal.long (not long) ∷ statusChecks rack x statuses
+
+-- a card's settings, and then those
+abbrev pub cardChecks : Settings → ℤ → List ℕ → Bool → List Check
+cardChecks s x statuses long = settingsChecks s ++ valueChecks (s .rack) x statuses long

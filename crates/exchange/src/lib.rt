@@ -1,13 +1,16 @@
-// Document 01, 'The exchange on the bench': what it is given, and when that is refused.
+// Document 01, 'The exchange on the bench': what it is given, when that is refused, and what a card of each status sends.
 use ground::bytes;
 use ground::refusal;
 use settings::Rack;
 use settings::Settings;
+use words::E;
 use words::Kind;
 ghost use mathlib.Core.Path.{_≡_};
 ghost use Rattle.ground.specs.Checks.{verdict};
-ghost use Rattle.words.specs.Word.{kindOf};
-ghost use Rattle.exchange.specs.Asked.{inputsLong, statusBad, statusesBad, isOrdinary, statusChecks, valueChecks};
+ghost use Rattle.ground.specs.Lists.{at};
+ghost use Rattle.words.specs.Word.{kindOf, readAt, wrapped};
+ghost use Rattle.exchange.specs.Exchange.{statusOf, sent};
+ghost use Rattle.exchange.specs.Asked.{inputsLong, statusBad, statusesBad, isOrdinary, statusChecks, valueChecks, cardChecks};
 
 // The table has a word for each slot and receiver.
 pub const TABLE: usize = Settings::SLOTS * Settings::MAX_CARDS;
@@ -70,4 +73,39 @@ pub fn inputs_long(statuses: &[u8], table: &[i32]) -> bool
     ensures { λ r. ⌜ r ≡ inputsLong (now (statuses .entry)) (now (table .entry)) ⌝ }
 {
     (statuses.len() == Settings::MAX_CARDS) & (table.len() == TABLE)
+}
+
+// The refusal number of settings and of what an exchange is given; 0 for none.
+pub fn card_refused(s: Settings, x: i32, statuses: &[u8], long: bool) -> u8
+    ensures { λ r. ⌜ r ≡ verdict (cardChecks s x (now (statuses .entry)) long) ⌝ }
+{
+    refusal::first(
+        settings::settings_refused(s),
+        values_refused(s.rack, x, statuses, long),
+    )
+}
+
+fn word_at(table: &[i32], place: usize) -> i32
+    ensures { λ r. ⌜ r ≡ at (now (table .entry)) place ⌝ }
+{
+    if place < table.len() { table[place] } else { 0 }
+}
+
+// What a card receives from one of this status, which sends `word` if it is good. The table has the receiver's own word at one place, and receiver 0's at the first.
+pub fn sent_by(status: u8, word: i32, table: &[i32], own: usize, first: usize) -> i32
+    ensures { λ r. ⌜ r ≡ sent (statusOf status) word (at (now (table .entry)) own) (at (now (table .entry)) first) ⌝ }
+{
+    match status {
+        0 => word,
+        1 => word_at(table, own),
+        2 => word_at(table, first),
+        _ => E,
+    }
+}
+
+// What a good card sends on of a word that it received at this level.
+pub fn relayed(level: usize, word: i32) -> i32
+    ensures { λ r. ⌜ r ≡ wrapped (readAt level word) ⌝ }
+{
+    words::wrap(words::read_at(level, word))
 }

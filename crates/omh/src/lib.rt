@@ -23,7 +23,8 @@ ghost use Rattle.refilling.specs.Refilled.{refillAsked};
 ghost use Rattle.frames.specs.Ages.{nextNumber, ageOf, classOf, classNumber};
 ghost use Rattle.frames.specs.Asked.{readAsked, writeAsked};
 ghost use Rattle.arrivals.specs.Entry.{frameAsked};
-ghost use Rattle.bench.specs.Asked.{wordAsked, answerForAsked, answersAsked, fillAsked};
+ghost use Rattle.bench.specs.Asked.{answerForAsked, answersAsked};
+ghost use Rattle.dealing.specs.Asked.{wordAsked, fillAsked};
 ghost use Rattle.bound.specs.Bound.{boundAsked};
 ghost use Rattle.trials.specs.Listing.{textOf};
 ghost use Rattle.omh.specs.Numbers.{rack as rack·, turn as turn·, frameWith, numberOf, numbered, placed, placedAs, bit, fieldsOf};
@@ -286,7 +287,7 @@ pub extern "C" fn omh_word_for(
     ensures { λ r. ⌜ outcome r (now (word .exit)) ≡ placed (wordAsked (settings n m t p) x (now (statuses .entry)) (now (table .entry)) slot) (now (word .entry)) ⌝ }
 {
     place(
-        bench::word_for(settings_of(n, m, t, p), x, statuses, table, slot),
+        dealing::word_for(settings_of(n, m, t, p), x, statuses, table, slot),
         word,
     )
 }
@@ -339,7 +340,7 @@ pub extern "C" fn omh_fill(
 ) -> u8
     ensures { λ r. ⌜ outcome r (bookOf (now (words .exit)) (now (votes .exit))) ≡ numbered (fillAsked (settings n m t p) x (now (statuses .entry)) (now (table .entry)) (bookOf (now (words .entry)) (now (votes .entry)))) ⌝ }
 {
-    number_of(bench::fill(settings_of(n, m, t, p), x, statuses, table, words, votes))
+    number_of(dealing::fill(settings_of(n, m, t, p), x, statuses, table, words, votes))
 }
 
 // 1 in the place where the bound holds, else 0.

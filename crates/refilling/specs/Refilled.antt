@@ -6,10 +6,10 @@ use Rattle.ground.specs.Checks.{verdict}
 use Rattle.ground.specs.Answer.{Answer, Outcome, outcomeBy}
 use Rattle.ground.specs.Lists.{at, table}
 use Rattle.words.specs.Rule.{Rule}
-use Rattle.settings.specs.Settings.{slots, ruleOf}
+use Rattle.settings.specs.Settings.{slots}
 use Rattle.settings.specs.declared.Settings.{Settings}
 use Rattle.paths.specs.Slots.{live}
-use Rattle.vote.specs.Vote.{vote}
+use Rattle.vote.specs.Vote.{ruleOf, vote}
 use Rattle.book.specs.Book.{Book}
 use Rattle.book.specs.Asked.{bookChecks}
 

@@ -9,7 +9,7 @@ ghost use lib.ListN.{length};
 ghost use Rattle.ground.specs.Answer.{outcome, ofDone};
 ghost use Rattle.ground.specs.Lists.{at};
 ghost use Rattle.words.specs.Rule.{omh};
-ghost use Rattle.settings.specs.Settings.{ruleOf};
+ghost use Rattle.vote.specs.Vote.{ruleOf};
 ghost use Rattle.book.specs.Book.{bookOf};
 ghost use Rattle.refilling.specs.Refilled.{refilledVotes, refillAsked};
 ghost use Rattle.refilling.specs.RefillOrder.{Fills, Refills, Refilling, RefillingMembers, RefillingLast};

@@ -5,7 +5,6 @@ use mathlib.Core.List.{List, [], _∷_, _++_}
 use lib.Dec.{eqb, ltb, leb}
 use Rattle.ground.specs.Refusal as refusal
 use Rattle.ground.specs.Checks.{Check, check}
-use Rattle.words.specs.Rule.{Rule, omh}
 use Rattle.settings.specs.declared.Rack.{Rack}
 use Rattle.settings.specs.declared.Turn.{Turn}
 use Rattle.settings.specs.declared.Settings.{Settings}
@@ -27,10 +26,6 @@ cards rack = rack .n
 -- a card is below n
 unfoldable pub fits : Rack → ℕ → Bool
 fits rack q = ltb q (rack .n)
-
--- the rule by which a rack's cards vote
-abbrev pub ruleOf : Rack → Rule
-ruleOf rack = omh
 
 abbrev pub turnOf : Settings → Turn
 turnOf s = record { rack = s .rack; t = s .t }

@@ -13,11 +13,11 @@ use Rattle.ground.specs.Answer.{Answer, value, refused, Outcome, outcome}
 use Rattle.ground.proofs.Answers.{outcome-done, value-verdict, refused-verdict}
 use Rattle.ground.proofs.Bits.{back, back-is}
 use Rattle.ground.proofs.Verdicts.{none-verdict, rest-decides, skipped}
-use Rattle.settings.specs.Settings.{ruleOf, rackChecks, turnChecks}
+use Rattle.settings.specs.Settings.{rackChecks, turnChecks}
+use Rattle.vote.specs.Vote.{ruleOf}
 use Rattle.exchange.specs.Exchange.{statusesOf}
 use Rattle.bound.specs.Bound.{bounded, boundChecks, boundAsked}
-use Rattle.bench.specs.Bench.{answersOf}
-use Rattle.bench.specs.Asked.{answersChecks, answersAsked}
+use Rattle.bench.specs.Asked.{answersOf, answersChecks, answersAsked}
 use Rattle.files.specs.File.{turnIn, statuses, valueIn, exceptions, headOf, allMissing, tableOf, exchangeOf, fileChecks, fileAsked}
 use Rattle.files.specs.declared.Head.{Head}
 use Rattle.files.proofs.Told.{length-told, length-missing}

@@ -15,11 +15,12 @@ use Rattle.ground.proofs.Bools.{cond-yes}
 use Rattle.ground.proofs.Lists.{length-table, at-table}
 use Rattle.text.specs.Decimal.{decimalOf}
 use Rattle.text.proofs.Laws.{length-text}
-use Rattle.settings.specs.Settings.{fits, ruleOf}
+use Rattle.settings.specs.Settings.{fits}
 use Rattle.settings.specs.declared.Rack.{Rack}
+use Rattle.vote.specs.Vote.{ruleOf}
 use Rattle.exchange.specs.Exchange.{statusesOf, answerOf}
 use Rattle.bound.specs.Bound.{bounded}
-use Rattle.bench.specs.Bench.{answersOf}
+use Rattle.bench.specs.Asked.{answersOf}
 use Rattle.files.specs.File.{turnIn, statuses, exchangeOf, fileChecks}
 use Rattle.trials.specs.Listing.{ending, lineOf, lines, boundLine, refusedLine, cardLine, listed, printed, textOf}
 use Rattle.trials.specs.Storing.{Stored}

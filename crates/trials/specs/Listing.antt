@@ -9,7 +9,8 @@ use Rattle.words.specs.Majority.{same}
 use Rattle.text.specs.Decimal.{decimalOf}
 use Rattle.ground.specs.Checks.{verdict}
 use Rattle.ground.specs.Answer.{Answer, value, refused, answer}
-use Rattle.settings.specs.Settings.{mostCards, fits, ruleOf}
+use Rattle.settings.specs.Settings.{mostCards, fits}
+use Rattle.vote.specs.Vote.{ruleOf}
 use Rattle.exchange.specs.Exchange.{statusesOf, answerOf}
 use Rattle.bound.specs.Bound.{bounded}
 use Rattle.files.specs.File.{turnIn, statuses, exchangeOf, fileChecks}

@@ -8,13 +8,13 @@ use lib.ListN.{length}
 use Rattle.ground.specs.Checks.{verdict}
 use Rattle.ground.specs.Answer.{value, answer}
 use Rattle.ground.specs.Lists.{at}
-use Rattle.settings.specs.Settings.{ruleOf}
 use Rattle.settings.specs.declared.Settings.{Settings}
 use Rattle.paths.specs.Slots.{live}
 use Rattle.paths.proofs.Live.{live-zero}
 use Rattle.vote.specs.Asked.{wordsChecks, voteChecks, voteAsked, answerAsked}
 use Rattle.vote.proofs.Asking.{vote-asked}
 use Rattle.vote.proofs.Votes.{vote-live}
+use Rattle.vote.specs.Vote.{ruleOf}
 
 -- two answers by one verdict are the same where their values are, if there is no refusal
 same-answer : {A : Type 0} (v : ℕ) (a b : A) → (v ≡ 0 → a ≡ b) → answer v a ≡ answer v b

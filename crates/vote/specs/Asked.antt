@@ -8,10 +8,10 @@ use lib.ListN.{length}
 use Rattle.ground.specs.Refusal as refusal
 use Rattle.ground.specs.Checks.{Check, check, verdict}
 use Rattle.ground.specs.Answer.{Answer, answer}
-use Rattle.settings.specs.Settings.{slots, ruleOf, settingsChecks}
+use Rattle.settings.specs.Settings.{slots, settingsChecks}
 use Rattle.settings.specs.declared.Settings.{Settings}
 use Rattle.paths.specs.Slots.{live}
-use Rattle.vote.specs.Vote.{vote}
+use Rattle.vote.specs.Vote.{ruleOf, vote}
 
 -- settings, then the list's length
 abbrev pub wordsChecks : Settings → List ℤ → List Check

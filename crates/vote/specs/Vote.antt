@@ -5,10 +5,15 @@ use mathlib.Core.List.{List, _∷_}
 use lib.Dec.{eqb}
 use lib.IntN.{ℤ}
 use Rattle.ground.specs.Lists.{at, over}
-use Rattle.words.specs.Rule.{Rule, majorityBy}
+use Rattle.words.specs.Rule.{Rule, omh, majorityBy}
 use Rattle.settings.specs.Settings.{mostCards}
+use Rattle.settings.specs.declared.Rack.{Rack}
 use Rattle.settings.specs.declared.Settings.{Settings}
 use Rattle.paths.specs.Slots.{below, level, live}
+
+-- the rule by which a rack's cards vote
+abbrev pub ruleOf : Rack → Rule
+ruleOf rack = omh
 
 -- f at every live path one relay longer than the path at k
 abbrev pub longer : Settings → (ℕ → ℤ) → ℕ → List ℤ

@@ -11,8 +11,7 @@ ghost use Rattle.ground.specs.Checks.{verdict};
 ghost use Rattle.ground.specs.Answer.{ofTold};
 ghost use Rattle.ground.specs.Lists.{at};
 ghost use Rattle.words.specs.Rule.{omh};
-ghost use Rattle.settings.specs.Settings.{ruleOf};
-ghost use Rattle.vote.specs.Vote.{vote};
+ghost use Rattle.vote.specs.Vote.{ruleOf, vote};
 ghost use Rattle.vote.specs.Members.{memberVote, membersVotes, Asked, Whole, Reports};
 ghost use Rattle.vote.specs.Asked.{wordsChecks, voteAsked, answerAsked};
 

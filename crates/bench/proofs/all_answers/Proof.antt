@@ -11,12 +11,13 @@ use Rattle.ground.specs.Checks.{verdict}
 use Rattle.ground.proofs.Bits.{back-is}
 use Rattle.ground.proofs.Answers.{outcome-refused, outcome-done}
 use Rattle.ground.proofs.Verdicts.{joined}
-use Rattle.settings.specs.Settings.{ruleOf, turnChecks}
+use Rattle.settings.specs.Settings.{turnChecks}
+use Rattle.vote.specs.Vote.{ruleOf}
 use Rattle.exchange.specs.Exchange.{exchange}
 use Rattle.exchange.specs.Asked.{inputsLong, valueChecks}
-use Rattle.bench.specs.Bench.{answersOf}
+use Rattle.bench.specs.Asked.{answersOf}
 use Rattle.bench.specs.Asked.{answersChecks, answersAsked}
-use Rattle.bench.proofs.Asking.{turn-asked, deals}
+use Rattle.exchange.proofs.Asking.{turn-asked, deals}
 use Rattle.bench.proofs.all_answers.Statement.{statement}
 use Rattle.bench.proofs.all_answers.Tie as tie
 

@@ -14,10 +14,11 @@ use Rattle.ground.specs.Lists.{at}
 use Rattle.ground.proofs.Bits.{back-is}
 use Rattle.ground.proofs.Bools.{chosen-yes, chosen-no}
 use Rattle.ground.proofs.Lists.{Passed, passed-none, passed-set, passed-same, passed-all}
-use Rattle.settings.specs.Settings.{fits, ruleOf}
+use Rattle.settings.specs.Settings.{fits}
 use Rattle.settings.specs.declared.Turn.{Turn}
+use Rattle.vote.specs.Vote.{ruleOf}
 use Rattle.exchange.specs.Exchange.{exchange, answerOf}
-use Rattle.bench.specs.Bench.{answersOf}
+use Rattle.bench.specs.Asked.{answersOf}
 use Rattle.bench.proofs.answer_all.Statement.{statement}
 use Rattle.bench.proofs.answer_all.Tie as tie
 

@@ -6,10 +6,11 @@ use lib.IntN.{ℤ}
 use Rattle.ground.specs.Checks.{verdict}
 use Rattle.ground.proofs.Bits.{back-is}
 use Rattle.ground.proofs.Answers.{answer-refused, answer-given}
-use Rattle.settings.specs.Settings.{ruleOf, turnOf}
+use Rattle.settings.specs.Settings.{turnOf}
+use Rattle.vote.specs.Vote.{ruleOf}
 use Rattle.exchange.specs.Exchange.{exchange, answerOf}
 use Rattle.bench.specs.Asked.{answerChecks, answerForAsked}
-use Rattle.bench.proofs.Asking.{card-asked, deals, own-card, card-verdict}
+use Rattle.exchange.proofs.Asking.{card-asked, deals, own-card, card-verdict}
 use Rattle.bench.proofs.answer_for.Statement.{statement}
 use Rattle.bench.proofs.answer_for.Tie as tie
 

@@ -13,10 +13,10 @@ use Rattle.ground.specs.Lists.{at}
 use Rattle.ground.proofs.Answers.{outcome-refused, outcome-done}
 use Rattle.ground.proofs.Bits.{back, back-is}
 use Rattle.ground.proofs.Verdicts.{still-refused, last-decides}
-use Rattle.settings.specs.Settings.{ruleOf}
 use Rattle.paths.specs.Slots.{way, membersOf}
 use Rattle.paths.proofs.Live.{live-slot}
 use Rattle.paths.proofs.Members.{in-tells, in-members}
+use Rattle.vote.specs.Vote.{ruleOf}
 use Rattle.book.specs.Book.{bookOf}
 use Rattle.book.specs.Asked.{bookChecks, slotChecks}
 use Rattle.book.proofs.Asking.{slot-asked}

@@ -8,12 +8,12 @@ use borrow.Author.Needs.{needs}
 use denote.Ref.{now}
 use lib.ListN.{length}
 use Rattle.ground.proofs.Lists.{length-table}
-use Rattle.settings.specs.Settings.{ruleOf}
 use Rattle.paths.specs.Slots.{membersOf}
 use Rattle.paths.specs.Walk.{putIn}
 use Rattle.paths.proofs.Members.{first-members}
 use Rattle.paths.proofs.Handed.{left-few, room-zero}
 use Rattle.vote.specs.Members.{memberVote}
+use Rattle.vote.specs.Vote.{ruleOf}
 use Rattle.refilling.proofs.Refilled.{put-votes}
 use Rattle.refilling.proofs.refill_all.Statement.{statement}
 use Rattle.refilling.proofs.refill_all.Tie as tie

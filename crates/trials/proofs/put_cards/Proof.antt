@@ -5,9 +5,9 @@ use borrow.Author.Needs.{needs, sfits-of}
 use denote.Ref.{now}
 use lib.ListN.{replicate, length-replicate}
 use Rattle.words.specs.Word.{E}
-use Rattle.settings.specs.Settings.{ruleOf}
+use Rattle.vote.specs.Vote.{ruleOf}
 use Rattle.exchange.proofs.Statuses.{at-most-3}
-use Rattle.bench.specs.Bench.{answersOf}
+use Rattle.bench.specs.Asked.{answersOf}
 use Rattle.files.specs.File.{turnIn, allMissing, exchangeOf}
 use Rattle.files.specs.declared.Head.{Head}
 use Rattle.files.proofs.Good.{file-good}

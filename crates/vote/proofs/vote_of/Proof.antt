@@ -7,13 +7,13 @@ use borrow.Author.Needs.{sfits-of}
 use lib.ListN.{length}
 use Rattle.ground.proofs.Bits.{back-is}
 use Rattle.ground.proofs.Lists.{length-table}
-use Rattle.settings.specs.Settings.{ruleOf}
 use Rattle.paths.specs.Slots.{level, roundsLeft}
 use Rattle.paths.specs.Walk.{room}
 use Rattle.paths.proofs.Handed.{path-room, path-deep}
 use Rattle.vote.proofs.Handed.{path-vote}
 use Rattle.vote.proofs.vote_of.Statement.{statement}
 use Rattle.vote.proofs.vote_of.Tie as tie
+use Rattle.vote.specs.Vote.{ruleOf}
 
 level-of-requires : tie.Need-level-of-requires
 level-of-requires c κs = search needs

@@ -1,6 +1,6 @@
--- `bench::dealt_at` meets its contract: slot 0 from the sender, any other from the last relay. The measure is the slot.
+-- `dealing::dealt_at` meets its contract: slot 0 from the sender, any other from the last relay. The measure is the slot.
 use Prim.Native.Nat.{ℕ, _<_}
-use mathlib.Core.Path.{ap, ap₂, _∙_}
+use mathlib.Core.Path.{refl, ap, ap₂, _∙_}
 use native.Mathlib.Omega.{arith}
 use borrow.Author.Needs.{needs, sfits-of}
 use borrow.Fn.Kinds.{In}
@@ -13,18 +13,18 @@ use Rattle.words.specs.Word.{wrapped, readAt}
 use Rattle.words.specs.Rule.{omh}
 use Rattle.paths.specs.Slots.{level as level·}
 use Rattle.exchange.specs.Exchange.{Exchange, exchange, dealt}
-use Rattle.exchange.proofs.Dealing.{dealt-first, dealt-next}
-use Rattle.bench.specs.Dealing.{sentTo}
-use Rattle.bench.proofs.dealt_at.Reads as says
-use Rattle.bench.proofs.dealt_at.Kinds as kinds
-use Rattle.bench.proofs.+dealt_at.Lts-dealt_at as lts
-use Rattle.bench.proofs.relayed.Reads as relayed
-use Rattle.bench.proofs.sent_by.Reads as sent-by
+use Rattle.exchange.proofs.Dealing.{sent-at, dealt-first, dealt-next}
+use Rattle.exchange.specs.Sending.{sentTo}
+use Rattle.dealing.proofs.dealt_at.Reads as says
+use Rattle.dealing.proofs.dealt_at.Kinds as kinds
+use Rattle.dealing.proofs.+dealt_at.Lts-dealt_at as lts
+use Rattle.exchange.proofs.relayed.Reads as relayed
+use Rattle.exchange.proofs.sent_by.Reads as sent-by
 use Rattle.paths.proofs.above.Reads as above-says
 use Rattle.paths.proofs.last_relay.Reads as last-relay
 use Rattle.paths.proofs.level_of.Reads as level-of
-use Rattle.bench.proofs.+dealt_at.{statement}
-use Rattle.bench.proofs.+dealt_at.Tie.{close}
+use Rattle.dealing.proofs.+dealt_at.{statement}
+use Rattle.dealing.proofs.+dealt_at.Tie.{close}
 
 abbrev μ-dealt-at : Measures 2 kinds.ps ℕ
 μ-dealt-at κs a = a .1 .1 .1 .1 .0
@@ -40,11 +40,17 @@ module _ (j : ℕ) where
   abbrev calls : lts.Claims
   calls = (sent-by.Asked, sent-by.Learnt, last-relay.Asked, last-relay.Learnt, above-says.Asked, above-says.Learnt, asked, says.Post, level-of.Asked, level-of.Learnt, relayed.Asked, relayed.Learnt)
 
+  mul-first : lts.Need-mul-first calls given says.Post
+  mul-first c = omega (arith, c .before .pre .1 .1)
+
+  add-own : lts.Need-add-own calls given says.Post
+  add-own c = omega (arith, c .before .pre .1 .1, c .before .pre .1 .2)
+
   read-sent-by : lts.Need-shared-slice-read-sent-by calls given says.Post
   read-sent-by c = let given = c .before .before .before .pre .1 .0 in omega (arith, given .sender, given .statuses-long)
 
   sent-by-requires : lts.Need-sent-by-requires calls given says.Post
-  sent-by-requires c κs = let given = c .before .before .before .pre .1 in (given .0 .table-long, given .1, given .2)
+  sent-by-requires c κs = search needs
 
   returns : lts.Need-returns calls given says.Post
   returns c rack =
@@ -52,7 +58,7 @@ module _ (j : ℕ) where
       let start = zero .before .before in
       let a = start .args in
       dealt-first omh (exchange (record { rack = rack; t = a .t }) (a .x) (now (a .statuses)) (now (a .table))) (a .k) (a .p) (zero .if1 .taken) (back-is (start .fits .x))
-      (back-is (sfits-of (c .sent-by .ok)) ∙ c .sent-by .ensures)
+      (sent-at _ _ (now (a .table)) (a .k) (a .p) refl (omega arith) (back-is (sfits-of (c .sent-by .ok)) ∙ c .sent-by .ensures))
 
   last-relay-requires : lts.Need-last-relay-requires calls given says.Post
   last-relay-requires c κs = search needs
@@ -68,25 +74,25 @@ module _ (j : ℕ) where
       let up = c .above .ensures in
       (omega (arith, up, other .if1 .left), (pre .1 .0, omega (arith, up, pre .1 .1), omega (arith, relay .last-relay .ensures)))
 
-  read-sent-by-2 : lts.Need-shared-slice-read-sent-by-2 calls given says.Post
-  read-sent-by-2 c =
-      let relay = c .before .before .before in
-      omega (arith, relay .last-relay .ensures, relay .before .before .before .pre .1 .0 .statuses-long)
-
   level-of-requires : lts.Need-level-of-requires calls given says.Post
   level-of-requires c κs = search needs
 
   relayed-requires : lts.Need-relayed-requires calls given says.Post
   relayed-requires c κs = search needs
 
+  read-sent-by-2 : lts.Need-shared-slice-read-sent-by-2 calls given says.Post
+  read-sent-by-2 c =
+      let relay = c .before .before .before .before .before in
+      omega (arith, relay .last-relay .ensures, relay .before .before .before .pre .1 .0 .statuses-long)
+
   sent-by-requires-2 : lts.Need-sent-by-requires-2 calls given says.Post
-  sent-by-requires-2 c κs = let given = c .before .before .before .before .before .before .before .before .pre .1 in (given .0 .table-long, given .1, given .2)
+  sent-by-requires-2 c κs = search needs
 
   returns-2 : lts.Need-returns-2 calls given says.Post
   returns-2 c rack =
-      let relay = c .before in
+      let relay = c .before .before in
       let level = relay .before in
-      let word = level .before .before in
+      let word = level .before in
       let up = word .before in
       let last = up .before in
       let other = last .before in
@@ -101,9 +107,10 @@ module _ (j : ℕ) where
       ∙ word .dealt-at .ensures rack
       ∙ ap (λ (x : ℤ). dealt omh (X x) (up .above .result) (last .last-relay .result)) (back-is (start .fits .x))
       ∙ ap₂ (dealt omh (X (a .x))) (up .above .ensures) (last .last-relay .ensures))))
-      (back-is (sfits-of (c .sent-by2 .ok)) ∙ c .sent-by2 .ensures ∙ ap (λ (q : ℕ). sentTo (getD (now (a .statuses)) q 0) (back (relay .relayed .result)) (now (a .table)) (a .k) (a .p)) (last .last-relay .ensures))
+      (sent-at _ _ (now (a .table)) (a .k) (a .p) refl (omega arith) (back-is (sfits-of (c .sent-by2 .ok)) ∙ c .sent-by2 .ensures)
+      ∙ ap (λ (q : ℕ). sentTo (getD (now (a .statuses)) q 0) (back (relay .relayed .result)) (now (a .table)) (a .k) (a .p)) (last .last-relay .ensures))
 
 pub +dealt-at-spec : {M : Type 1} → statement M
 +dealt-at-spec =
     close μ-dealt-at
-    λ j. lts.spec (calls j) (given j) says.Post (read-sent-by j) (sent-by-requires j) (returns j) (last-relay-requires j) (above-requires j) (dealt-at-requires j) (read-sent-by-2 j) (level-of-requires j) (relayed-requires j) (sent-by-requires-2 j) (returns-2 j)
+    λ j. lts.spec (calls j) (given j) says.Post (mul-first j) (add-own j) (read-sent-by j) (sent-by-requires j) (returns j) (last-relay-requires j) (above-requires j) (dealt-at-requires j) (level-of-requires j) (relayed-requires j) (read-sent-by-2 j) (sent-by-requires-2 j) (returns-2 j)

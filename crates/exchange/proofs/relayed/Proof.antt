@@ -1,10 +1,10 @@
--- `bench::relayed` meets its contract: the wrapped reading.
+-- `exchange::relayed` meets its contract: the wrapped reading.
 use mathlib.Core.Path.{ap, _∙_}
 use borrow.Author.Needs.{needs, sfits-of}
 use Rattle.words.specs.Word.{readAt, wrapped}
 use Rattle.ground.proofs.Bits.{back-is}
-use Rattle.bench.proofs.relayed.Statement.{statement}
-use Rattle.bench.proofs.relayed.Tie as tie
+use Rattle.exchange.proofs.relayed.Statement.{statement}
+use Rattle.exchange.proofs.relayed.Tie as tie
 
 read-at-requires : tie.Need-read-at-requires
 read-at-requires c κs = search needs

@@ -1,4 +1,4 @@
--- `bench::fill` meets its contract: the verdict decides; the words are dealt, and the book refilled.
+-- `dealing::fill` meets its contract: the verdict decides; the words are dealt, and the book refilled.
 use mathlib.Core.Path.{_≡_, sym, ap, _∙_}
 use mathlib.Core.Bool.{Bool, _&&_}
 use borrow.Author.Needs.{needs}
@@ -7,15 +7,16 @@ use lib.IntN.{ℤ}
 use Rattle.ground.specs.Checks.{verdict}
 use Rattle.ground.proofs.Bits.{back-is}
 use Rattle.ground.proofs.Answers.{outcome-refused}
-use Rattle.settings.specs.Settings.{ruleOf, turnOf}
+use Rattle.settings.specs.Settings.{turnOf}
+use Rattle.vote.specs.Vote.{ruleOf}
 use Rattle.book.specs.Book.{bookOf, sized}
 use Rattle.exchange.specs.Exchange.{exchange}
-use Rattle.bench.specs.Bench.{dealtOver}
-use Rattle.bench.specs.Asked.{fillChecks, fillAsked}
-use Rattle.bench.proofs.Asking.{deals, own-card, card-verdict}
-use Rattle.bench.proofs.Filling.{fill-asked, filling}
-use Rattle.bench.proofs.fill.Statement.{statement}
-use Rattle.bench.proofs.fill.Tie as tie
+use Rattle.dealing.specs.Dealt.{dealtOver}
+use Rattle.dealing.specs.Asked.{fillChecks, fillAsked}
+use Rattle.exchange.proofs.Asking.{deals, own-card, card-verdict}
+use Rattle.dealing.proofs.Filling.{fill-asked, filling}
+use Rattle.dealing.proofs.fill.Statement.{statement}
+use Rattle.dealing.proofs.fill.Tie as tie
 
 inputs-long-requires : tie.Need-inputs-long-requires
 inputs-long-requires c κs = search needs

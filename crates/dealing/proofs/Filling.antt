@@ -13,11 +13,12 @@ use Rattle.ground.proofs.Bools.{cond-yes}
 use Rattle.ground.proofs.Lists.{length-table, at-table}
 use Rattle.ground.proofs.Verdicts.{no-verdicts}
 use Rattle.words.specs.Rule.{Rule}
-use Rattle.settings.specs.Settings.{slots, ruleOf, turnOf, settingsChecks}
+use Rattle.settings.specs.Settings.{slots, turnOf, settingsChecks}
 use Rattle.settings.specs.declared.Settings.{Settings}
 use Rattle.settings.proofs.Good.{Good}
 use Rattle.paths.specs.Slots.{live}
 use Rattle.paths.proofs.Live.{live-zero, live-slot}
+use Rattle.vote.specs.Vote.{ruleOf}
 use Rattle.book.specs.Book.{Book, bookOf, sized, held, Sized}
 use Rattle.book.proofs.Asking.{sized-both, not-refused}
 use Rattle.refilling.specs.Refilled.{refilled, refillAsked}
@@ -25,9 +26,9 @@ use Rattle.refilling.proofs.Refilled.{refilled-agrees}
 use Rattle.exchange.specs.Exchange.{Exchange, exchange, settingsFor, dealt, answerOf}
 use Rattle.exchange.specs.Asked.{inputsLong}
 use Rattle.exchange.proofs.Dealing.{answer-from}
-use Rattle.bench.specs.Bench.{dealtOver, filledFor}
-use Rattle.bench.specs.Asked.{fillChecks, fillAsked}
-use Rattle.bench.proofs.Asking.{card-asked}
+use Rattle.dealing.specs.Dealt.{dealtOver, filledFor}
+use Rattle.dealing.specs.Asked.{fillChecks, fillAsked}
+use Rattle.exchange.proofs.Asking.{card-asked}
 
 pub length-dealt : (R : Rule) (X : Exchange) (p : ℕ) (before : List ℤ) → length (dealtOver R X p before) ≡ slots
 unfolding dealtOver

@@ -1,4 +1,4 @@
--- `bench::word_for` meets its contract: the verdict decides.
+-- `dealing::word_for` meets its contract: the verdict decides.
 use mathlib.Core.Path.{_≡_, sym, ap, _∙_}
 use mathlib.Core.Bool.{not}
 use borrow.Author.Needs.{needs, sfits-of}
@@ -9,15 +9,17 @@ use Rattle.ground.proofs.Bools.{holds}
 use Rattle.ground.proofs.Bits.{back-is}
 use Rattle.ground.proofs.Answers.{answer-refused, answer-given}
 use Rattle.ground.proofs.Verdicts.{no-verdict, alone, joined, no-verdicts}
-use Rattle.settings.specs.Settings.{ruleOf, turnOf}
+use Rattle.settings.specs.Settings.{turnOf}
 use Rattle.paths.specs.Slots.{live}
 use Rattle.paths.proofs.Live.{live-slot}
 use Rattle.paths.proofs.Members.{in-tells}
+use Rattle.vote.specs.Vote.{ruleOf}
 use Rattle.exchange.specs.Exchange.{exchange, dealt}
-use Rattle.bench.specs.Asked.{answerChecks, wordChecks, wordAsked}
-use Rattle.bench.proofs.Asking.{card-asked, deals, own-card, card-verdict}
-use Rattle.bench.proofs.word_for.Statement.{statement}
-use Rattle.bench.proofs.word_for.Tie as tie
+use Rattle.exchange.specs.Asked.{inputsLong, cardChecks}
+use Rattle.dealing.specs.Asked.{wordChecks, wordAsked}
+use Rattle.exchange.proofs.Asking.{card-asked, deals, own-card, card-verdict}
+use Rattle.dealing.proofs.word_for.Statement.{statement}
+use Rattle.dealing.proofs.word_for.Tie as tie
 
 may-relay-requires : tie.Need-may-relay-requires
 may-relay-requires c κs = search needs
@@ -45,7 +47,7 @@ told c =
     let members = live .before .before in
     let start = members .before .before in
     let a = start .args in
-    joined (answerChecks (a .s) (a .x) (now (a .statuses)) (now (a .table))) _ tt (c .first .ensures)
+    joined (cardChecks (a .s) (a .x) (now (a .statuses)) (inputsLong (now (a .statuses)) (now (a .table)))) _ tt (c .first .ensures)
     (card-verdict (a .s) (now (a .statuses)) (start .fits .x) (card .before .inputs-long .ensures) (card .card-refused .ensures))
     (alone 8 (c .before .when .ensures) (ap not (in-tells (a .s) (a .slot) (members .may-relay .ensures) (live .live-in .ensures))))
 
@@ -56,7 +58,7 @@ returns c = answer-refused (told (c .before)) (c .if1 .taken) _
 dealt-at-requires : tie.Need-dealt-at-requires
 dealt-at-requires c κs =
     let a = c .before .before .before .before .before .before .before .before .before .args in
-    let both = no-verdicts (answerChecks (a .s) (a .x) (now (a .statuses)) (now (a .table))) _ tt (sym (told (c .before)) ∙ c .if1 .left) in
+    let both = no-verdicts (cardChecks (a .s) (a .x) (now (a .statuses)) (inputsLong (now (a .statuses)) (now (a .table)))) _ tt (sym (told (c .before)) ∙ c .if1 .left) in
     let given = card-asked (a .s) (a .x) (now (a .statuses)) _ (both .0) in
     (deals _ (now (a .statuses)) (now (a .table)) (given .0 .turn) (given .1), live-slot (a .s) (a .slot) (holds (live (a .s) (a .slot)) (no-verdict _ tt (both .1) .0)), own-card (a .s) (given .0))
 

@@ -1,4 +1,4 @@
--- `bench::deal` meets its contract: the live places before `k` are dealt.
+-- `dealing::deal` meets its contract: the live places before `k` are dealt.
 use Prim.Native.Nat.{ℕ, _-_}
 use mathlib.Core.Path.{sym, ap, _∙_}
 use mathlib.Core.Bool.{cond}
@@ -14,14 +14,15 @@ use Rattle.ground.specs.Lists.{at}
 use Rattle.ground.proofs.Bits.{back-is}
 use Rattle.ground.proofs.Bools.{chosen-yes, chosen-no}
 use Rattle.ground.proofs.Lists.{Passed, passed-none, passed-set, passed-same, passed-all}
-use Rattle.settings.specs.Settings.{ruleOf, turnOf}
+use Rattle.settings.specs.Settings.{turnOf}
 use Rattle.settings.specs.declared.Settings.{Settings}
 use Rattle.paths.specs.Slots.{live}
 use Rattle.paths.proofs.Members.{in-tells}
+use Rattle.vote.specs.Vote.{ruleOf}
 use Rattle.exchange.specs.Exchange.{exchange, dealt}
-use Rattle.bench.specs.Bench.{dealtOver}
-use Rattle.bench.proofs.deal.Statement.{statement}
-use Rattle.bench.proofs.deal.Tie as tie
+use Rattle.dealing.specs.Dealt.{dealtOver}
+use Rattle.dealing.proofs.deal.Statement.{statement}
+use Rattle.dealing.proofs.deal.Tie as tie
 
 -- what place k holds after the dealing
 abbrev goal : Settings → ℤ → List ℕ → List ℤ → List ℤ → ℕ → ℤ

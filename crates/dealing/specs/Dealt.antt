@@ -1,19 +1,15 @@
--- Document 01, 'The exchange on the bench': all answers, and a book filled, over any rule.
+-- Document 01, 'The exchange on the bench': a book filled, over any rule.
 use Prim.Native.Nat.{ℕ}
 use mathlib.Core.Bool.{cond}
 use mathlib.Core.List.{List}
 use lib.IntN.{ℤ}
 use Rattle.ground.specs.Lists.{at, table}
 use Rattle.words.specs.Rule.{Rule}
-use Rattle.settings.specs.Settings.{mostCards, slots, fits}
+use Rattle.settings.specs.Settings.{slots}
 use Rattle.paths.specs.Slots.{live}
 use Rattle.book.specs.Book.{Book, bookOf}
 use Rattle.refilling.specs.Refilled.{refilled}
-use Rattle.exchange.specs.Exchange.{Exchange, settingsFor, dealt, answerOf}
-
--- all answers: each card's in its place of a list of ten, the rest untouched
-unfoldable pub answersOf : Rule → Exchange → List ℤ → List ℤ
-answersOf R X before = table mostCards 0 (λ p. cond (fits (X .rack) p) (answerOf R X p) (at before p))
+use Rattle.exchange.specs.Exchange.{Exchange, settingsFor, dealt}
 
 -- the words of p dealt at its live slots, other places untouched
 unfoldable pub dealtOver : Rule → Exchange → ℕ → List ℤ → List ℤ

@@ -1,4 +1,4 @@
--- `bench::card_refused` meets its contract: the settings' verdict, then what the exchange is given.
+-- `exchange::card_refused` meets its contract: the settings' verdict, then what the exchange is given.
 use mathlib.Core.Path.{ap, _∙_}
 use borrow.Author.Needs.{needs}
 use denote.Ref.{now}
@@ -7,9 +7,9 @@ use Rattle.ground.specs.Checks.{verdict}
 use Rattle.ground.proofs.Bits.{back-is}
 use Rattle.ground.proofs.Verdicts.{joined}
 use Rattle.settings.specs.Settings.{settingsChecks}
 use Rattle.exchange.specs.Asked.{valueChecks}
-use Rattle.bench.proofs.card_refused.Statement.{statement}
-use Rattle.bench.proofs.card_refused.Tie as tie
+use Rattle.exchange.proofs.card_refused.Statement.{statement}
+use Rattle.exchange.proofs.card_refused.Tie as tie
 
 settings-refused-requires : tie.Need-settings-refused-requires
 settings-refused-requires c κs = search needs
