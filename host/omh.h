@@ -53,6 +53,10 @@ enum {
     OMH_STACK_WRAP = 512,
     OMH_STACK_UNWRAP = 512,
     OMH_STACK_MAJORITY = 512,
+    OMH_STACK_SETTINGS_REFUSED = 512,
+    OMH_STACK_SLOT_OF = 512,
+    OMH_STACK_SLOT_ABOVE = 512,
+    OMH_STACK_IS_LIVE = 512,
     OMH_STACK_VOTE_AT = 1024,
     OMH_STACK_OPEN = 512,
     OMH_STACK_ENTER = 1024,
@@ -111,6 +115,24 @@ int32_t omh_read_at(size_t level, int32_t word);
 int32_t omh_wrap(int32_t word);
 int32_t omh_unwrap(int32_t word);
 int32_t omh_majority(const int32_t *list, size_t list_len);
+
+/* ---- settings, paths and slots */
+
+/* The refusal number of settings; 0 for good ones. 1, 2, 3, 4 */
+uint8_t omh_settings_refused(size_t n, size_t m, size_t t, size_t p);
+
+/* The slot of a path, by its level and its relays in the order of a frame's
+   fields; relays that the level does not use are not looked at. 8 */
+uint8_t omh_slot_of(size_t level, size_t q1, size_t q2, size_t q3,
+                    size_t *slot);
+
+/* The slot above a slot over 0. 8 */
+uint8_t omh_slot_above(size_t slot, size_t *above);
+
+/* Whether a slot is live for card p: 1 or 0 in the place, 0 for a number that
+   is no slot. 1, 2, 3, 4 */
+uint8_t omh_is_live(size_t n, size_t m, size_t t, size_t p,
+                    size_t slot, int32_t *live);
 
 /* ---- the vote: 1, 2, 3, 4, 5, 8 */
 

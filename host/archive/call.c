@@ -18,6 +18,7 @@ const char *function_name(enum function function)
 #define NUMBER(type, k) ((type)r->numbers[k])
 #define BYTES(k) (room_block(r, k) + r->block[k].list)
 #define WORDS(k) ((int32_t *)(void *)BYTES(k))
+#define SLOTS(k) ((size_t *)(void *)BYTES(k))
 #define BYTE_LIST(k) BYTES(k), r->block[k].length
 #define WORD_LIST(k) WORDS(k), r->block[k].length
 #define SETTINGS r->numbers[0], r->numbers[1], r->numbers[2], r->numbers[3]
@@ -35,6 +36,14 @@ uint64_t call(const struct request *r)
         return (uint64_t)omh_unwrap(NUMBER(int32_t, 0));
     case CALL_omh_majority:
         return (uint64_t)omh_majority(WORD_LIST(0));
+    case CALL_omh_settings_refused:
+        return omh_settings_refused(SETTINGS);
+    case CALL_omh_slot_of:
+        return omh_slot_of(r->numbers[0], r->numbers[1], r->numbers[2], r->numbers[3], SLOTS(0));
+    case CALL_omh_slot_above:
+        return omh_slot_above(r->numbers[0], SLOTS(0));
+    case CALL_omh_is_live:
+        return omh_is_live(SETTINGS, r->numbers[4], WORDS(0));
     case CALL_omh_vote_at:
         return omh_vote_at(SETTINGS, WORD_LIST(0), r->numbers[4], WORDS(1));
     case CALL_omh_open:

@@ -162,7 +162,7 @@ static void ask_frames(void)
     ask(CALL_omh_read_frame, 2);
 }
 
-/* ---- votes and books */
+/* ---- settings, paths and slots */
 
 static void number_settings(void)
 {
@@ -171,6 +171,34 @@ static void number_settings(void)
     number(2, spoils() ? beyond(s.n) : s.t);
     number(3, spoils() ? beyond(s.n) : s.p);
 }
+
+/* A place for a slot, which holds anything. */
+static void lend_slot(size_t i)
+{
+    size_t *slot = lend(i, 1, sizeof *slot);
+    *slot = any();
+}
+
+static void ask_paths(void)
+{
+    s = settings_draw();
+    number_settings();
+    ask(CALL_omh_settings_refused, 0);
+    number(4, slot_draw(&s));
+    lend_words(0, 1);
+    ask(CALL_omh_is_live, 1);
+    struct path path = path_draw(&s);
+    number(0, spoils() ? beyond(OMH_ROUNDS + 1) : path.level);
+    for (size_t k = 0; k < OMH_ROUNDS; k++)
+        number(1 + k, spoils() ? beyond(OMH_CARDS) : path.relays[k]);
+    lend_slot(0);
+    ask(CALL_omh_slot_of, 1);
+    number(0, slot_draw(&s));
+    lend_slot(0);
+    ask(CALL_omh_slot_above, 1);
+}
+
+/* ---- votes and books */
 
 static void ask_votes(void)
 {
@@ -300,7 +328,7 @@ static void ask_listing(void)
 int main(int count, char **arguments)
 {
     static void (*const asks[])(void) = {
-        ask_words, ask_ages, ask_frames, ask_votes, ask_book, ask_bound, ask_bench, ask_listing, ask_listing,
+        ask_words, ask_ages, ask_frames, ask_paths, ask_votes, ask_book, ask_bound, ask_bench, ask_listing, ask_listing,
     };
     static const uint64_t spoiled[] = {0, 50, 20, 8, 3};
     if (count != 3) {

@@ -6,6 +6,7 @@ mod cases {
     pub mod frames;
     pub mod listings;
     pub mod paths;
+    pub mod slots;
     pub mod votes;
     pub mod words;
 }
@@ -13,7 +14,7 @@ mod cases {
 use cases::exchanges::{hold_books, hold_exchanges};
 use cases::frames::{hold_ages, hold_reading, hold_writing};
 use cases::listings::{bytes_of, hold_listings, EXAMPLE, EXAMPLE_LISTING};
-use cases::paths::PATHS;
+use cases::slots::{hold_live, hold_slots};
 use cases::votes::hold_votes;
 use cases::words::{hold_majorities, hold_words, WORDS};
 use second::book;
@@ -158,15 +159,12 @@ fn majority_needs_more_than_half() {
 
 #[test]
 fn worked_slots() {
-    for (level, relays, slot, above) in PATHS {
-        assert_eq!(slot_of(level.into(), relays.map(usize::from)), Ok(slot));
-        let mut left = slot;
-        for &next in above {
-            left = slot_above(left).unwrap();
-            assert_eq!(left, next, "above {slot}");
-        }
-        assert_eq!(left, 0, "the last above {slot}");
-    }
+    hold_slots(slot_of, slot_above);
+}
+
+#[test]
+fn worked_live_slots() {
+    hold_live(Settings::check, |s, slot| live(s.n, s.m, s.t, s.p, slot));
 }
 
 #[test]
@@ -180,21 +178,7 @@ fn every_slot_has_its_path() {
         relays[..path.len()].copy_from_slice(&path);
         assert_eq!(slot_of(path.len(), relays), Ok(slot));
     }
-    assert_eq!(slot_of(0, [10, 10, 10]), Ok(0));
-    assert_eq!(slot_of(1, [10, 0, 0]), Err(8));
-    assert_eq!(slot_of(2, [0, usize::MAX, 0]), Err(8));
-    assert_eq!(slot_of(3, [0, 0, 10]), Err(8));
-    assert_eq!(slot_of(4, [0, 1, 2]), Err(8));
-    assert_eq!(slot_of(usize::MAX, [0, 1, 2]), Err(8));
     assert_eq!(slot_of_path(&[0, 1, 2, 3]), Err(8));
-    for slot in [0, 1_111, usize::MAX] {
-        assert_eq!(slot_above(slot), Err(8));
-    }
-    // The ends of the levels; those of levels 2 and 3 repeat a card.
-    let ends = [1, 10, 11, 110, 111, 1_110];
-    assert_eq!(ends.map(slot_above), [0, 0, 1, 10, 11, 110].map(Ok));
-    let paths: [&[usize]; 6] = [&[0], &[9], &[0, 0], &[9, 9], &[0, 0, 0], &[9, 9, 9]];
-    assert_eq!(paths.map(slot_of_path), ends.map(Ok));
     assert_eq!((path_at(1_111), path_at(usize::MAX)), (None, None));
 }
 
@@ -214,37 +198,6 @@ fn live_slots_are_as_many_as_paths_of_other_cards() {
         assert!(is_live(s, 0));
         assert!(!is_live(s, 1_111) && !is_live(s, usize::MAX));
     }
-}
-
-#[test]
-fn live_follows_the_rule() {
-    let live = |slot| live(6, 2, 1, 4, slot).unwrap();
-    assert!(live(0) && live(1) && live(3) && live(6));
-    assert!(!live(2), "relay 1 is the sender");
-    assert!(!live(5), "relay 4 is the own card");
-    assert!(!live(7), "there is no card 6");
-    assert!(live(11 + 2) && live(11 + 53));
-    assert!(!live(11), "0 relays twice");
-    assert!(!live(11 + 24) && !live(11 + 41) && !live(11 + 56));
-    assert!(!live(111 + 23), "level 3 is over m");
-}
-
-#[test]
-fn settings_are_refused_in_order() {
-    let far = usize::MAX;
-    for n in [0, 11, far] {
-        assert_eq!(live(n, far, far, far, far), Err(1));
-    }
-    for (n, m) in [(1, 1), (3, 3), (10, 4), (10, far)] {
-        assert_eq!(live(n, m, far, far, far), Err(2));
-    }
-    for t in [4, 10, far] {
-        assert_eq!(live(4, 3, t, far, far), Err(3));
-    }
-    for p in [4, 10, far] {
-        assert_eq!(live(4, 3, 3, p, far), Err(4));
-    }
-    assert_eq!(live(4, 3, 3, 3, far), Ok(false));
 }
 
 // The vote

@@ -1,7 +1,9 @@
 -- Demand 1 of what a card gets: each exported function answers 0 or the number of the first check that applies, and a refusal changes nothing that is lent.
 use denote.Ref.{now}
 use Rattle.ground.specs.Fixes.{Allows}
+use Rattle.settings.specs.Settings.{settingsChecks}
 use Rattle.settings.specs.Asked.{settings}
+use Rattle.paths.specs.Asked.{pathChecks, slotAsked, aboveChecks, aboveAsked, liveAsked}
 use Rattle.vote.specs.Asked.{voteChecks, voteAsked}
 use Rattle.book.specs.Book.{bookOf}
 use Rattle.book.specs.Asked.{bookChecks, slotChecks, heldChecks}
@@ -12,8 +14,16 @@ use Rattle.bench.specs.Asked.{answerChecks, answersChecks, answersAsked}
 use Rattle.dealing.specs.Asked.{wordChecks, wordAsked, fillChecks, fillAsked}
 use Rattle.bound.specs.Bound.{boundChecks, boundAsked}
 use Rattle.omh.specs.Numbers.{rack, turn, frameWith}
-use Rattle.demands.specs.Refusing.{Numbers}
-use Rattle.demands.proofs.Order.{by-number, by-place}
+use Rattle.demands.specs.Refusing.{Numbers, Counted}
+use Rattle.demands.proofs.Order.{by-number, by-place, by-verdict}
+use Rattle.omh.proofs.omh_settings_refused.Kinds as settings-refused
+use Rattle.omh.proofs.omh_settings_refused.Reads as settings-refused-says
+use Rattle.omh.proofs.omh_slot_of.Kinds as slot-of
+use Rattle.omh.proofs.omh_slot_of.Reads as slot-of-says
+use Rattle.omh.proofs.omh_slot_above.Kinds as slot-above
+use Rattle.omh.proofs.omh_slot_above.Reads as slot-above-says
+use Rattle.omh.proofs.omh_is_live.Kinds as is-live
+use Rattle.omh.proofs.omh_is_live.Reads as is-live-says
 use Rattle.omh.proofs.omh_vote_at.Kinds as vote-at
 use Rattle.omh.proofs.omh_vote_at.Reads as vote-at-says
 use Rattle.omh.proofs.omh_open.Kinds as opening
@@ -40,6 +50,23 @@ use Rattle.omh.proofs.omh_fill.Kinds as fill
 use Rattle.omh.proofs.omh_fill.Reads as fill-says
 use Rattle.omh.proofs.omh_bound.Kinds as bound
 use Rattle.omh.proofs.omh_bound.Reads as bound-says
+
+-- ---- settings and paths
+
+pub settings-refused-refuses : Allows 0 settings-refused.ps settings-refused.r settings-refused-says.Post (λ κs a x s. Counted (settingsChecks (settings (a .0) (a .1 .0) (a .1 .1 .0) (a .1 .1 .1 .0))) x)
+settings-refused-refuses κs a x s p = by-verdict _ p
+
+pub slot-of-refuses : Allows 1 slot-of.ps slot-of.r slot-of-says.Post (λ κs a x s. Numbers (pathChecks (a .0) (a .1 .0) (a .1 .1 .0) (a .1 .1 .1 .0)) x (now (a .1 .1 .1 .1 .0)) (now (s .1 .1 .1 .1 .0)))
+unfolding slotAsked
+slot-of-refuses κs a x s p = by-place _ _ _ _ p
+
+pub slot-above-refuses : Allows 1 slot-above.ps slot-above.r slot-above-says.Post (λ κs a x s. Numbers (aboveChecks (a .0)) x (now (a .1 .0)) (now (s .1 .0)))
+unfolding aboveAsked
+slot-above-refuses κs a x s p = by-place _ _ _ _ p
+
+pub is-live-refuses : Allows 1 is-live.ps is-live.r is-live-says.Post (λ κs a x s. Numbers (settingsChecks (settings (a .0) (a .1 .0) (a .1 .1 .0) (a .1 .1 .1 .0))) x (now (a .1 .1 .1 .1 .1 .0)) (now (s .1 .1 .1 .1 .1 .0)))
+unfolding liveAsked
+is-live-refuses κs a x s p = by-place _ _ _ _ p
 
 -- ---- the vote and the book
 

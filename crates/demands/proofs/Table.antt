@@ -19,7 +19,7 @@ pub table-is-right : allRight worked ≡ true
 unfolding worked allRight kindOf readAt wrapped unwrapped same kept occurs overHalf first majority slotOf level relaysBy all noneOf different fits mayRelay live table over voteFrom voteIn vote ageOf classOf sent dealtAt received answerOf
 table-is-right = refl
 
--- and of the further cases, which are run with no other program
+-- and of the further cases
 pub further-is-right : allRight shown ≡ true
 unfolding shown allRight same sameText slotOf level used all slotAsked aboveAsked verdict answer digitsOf decimalOf
 further-is-right = refl

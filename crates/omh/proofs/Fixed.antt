@@ -15,6 +15,14 @@ use Rattle.omh.proofs.omh_unwrap.Kinds as omh-unwrap
 use Rattle.omh.proofs.omh_unwrap.Reads as omh-unwrap-says
 use Rattle.omh.proofs.omh_majority.Kinds as omh-majority
 use Rattle.omh.proofs.omh_majority.Reads as omh-majority-says
+use Rattle.omh.proofs.omh_settings_refused.Kinds as omh-settings-refused
+use Rattle.omh.proofs.omh_settings_refused.Reads as omh-settings-refused-says
+use Rattle.omh.proofs.omh_slot_of.Kinds as omh-slot-of
+use Rattle.omh.proofs.omh_slot_of.Reads as omh-slot-of-says
+use Rattle.omh.proofs.omh_slot_above.Kinds as omh-slot-above
+use Rattle.omh.proofs.omh_slot_above.Reads as omh-slot-above-says
+use Rattle.omh.proofs.omh_is_live.Kinds as omh-is-live
+use Rattle.omh.proofs.omh_is_live.Reads as omh-is-live-says
 use Rattle.omh.proofs.omh_vote_at.Kinds as omh-vote-at
 use Rattle.omh.proofs.omh_vote_at.Reads as omh-vote-at-says
 use Rattle.omh.proofs.omh_open.Kinds as omh-open
@@ -61,6 +69,18 @@ omh-unwrap-fixed κs a x y s t p q = p ∙ sym q
 
 pub omh-majority-fixed : Fixes 1 omh-majority.ps omh-majority.r omh-majority-says.Post ℤ (λ κs x s. x)
 omh-majority-fixed κs a x y s t p q = p ∙ sym q
+
+pub omh-settings-refused-fixed : Fixes 0 omh-settings-refused.ps omh-settings-refused.r omh-settings-refused-says.Post ℕ (λ κs x s. x)
+omh-settings-refused-fixed κs a x y s t p q = p ∙ sym q
+
+pub omh-slot-of-fixed : Fixes 1 omh-slot-of.ps omh-slot-of.r omh-slot-of-says.Post (Outcome ℕ ℕ) (λ κs x s. outcome x (now (s .1 .1 .1 .1 .0)))
+omh-slot-of-fixed κs a x y s t p q = p ∙ sym q
+
+pub omh-slot-above-fixed : Fixes 1 omh-slot-above.ps omh-slot-above.r omh-slot-above-says.Post (Outcome ℕ ℕ) (λ κs x s. outcome x (now (s .1 .0)))
+omh-slot-above-fixed κs a x y s t p q = p ∙ sym q
+
+pub omh-is-live-fixed : Fixes 1 omh-is-live.ps omh-is-live.r omh-is-live-says.Post (Outcome ℕ ℤ) (λ κs x s. outcome x (now (s .1 .1 .1 .1 .1 .0)))
+omh-is-live-fixed κs a x y s t p q = p ∙ sym q
 
 pub omh-vote-at-fixed : Fixes 2 omh-vote-at.ps omh-vote-at.r omh-vote-at-says.Post (Outcome ℕ ℤ) (λ κs x s. outcome x (now (s .1 .1 .1 .1 .1 .1 .0)))
 omh-vote-at-fixed κs a x y s t p q = p ∙ sym q

@@ -5,16 +5,21 @@ use frames::Frame;
 use frames::Parsed;
 use ground::Done;
 use ground::Told;
+use paths::Liveness;
+use paths::Place;
 use settings::Rack;
 use settings::Settings;
 use settings::Turn;
 ghost use mathlib.Core.Path.{_≡_};
 ghost use mathlib.Core.List.{_++_};
 ghost use lib.ListN.{length, drop};
+ghost use Rattle.ground.specs.Checks.{verdict};
 ghost use Rattle.ground.specs.Answer.{outcome, ofTold, ofDone};
 ghost use Rattle.words.specs.Word.{readAt, wrapped, unwrapped};
 ghost use Rattle.words.specs.Rule.{omh, majorityBy};
+ghost use Rattle.settings.specs.Settings.{settingsChecks};
 ghost use Rattle.settings.specs.Asked.{settings};
+ghost use Rattle.paths.specs.Asked.{ofPlace, slotAsked, aboveAsked, liveAsked};
 ghost use Rattle.vote.specs.Asked.{voteAsked};
 ghost use Rattle.book.specs.Book.{bookOf};
 ghost use Rattle.book.specs.Asked.{openAsked, heldAsked};
@@ -67,6 +72,19 @@ fn place(told: Told, at: &mut i32) -> u8
     }
 }
 
+// The slot goes to its place.
+fn place_slot(given: Place, at: &mut usize) -> u8
+    ensures { λ r. ⌜ outcome r (now (at .exit)) ≡ placed (ofPlace given) (now (at .entry)) ⌝ }
+{
+    match given {
+        Place::Slot(slot) => {
+            *at = slot;
+            0
+        }
+        Place::Refused(k) => k,
+    }
+}
+
 // ---- words
 
 #[no_mangle]
@@ -95,6 +113,51 @@ pub extern "C" fn omh_majority(list: &[i32]) -> i32
     ensures { λ r. ⌜ r ≡ majorityBy omh (now (list .entry)) ⌝ }
 {
     words::majority(list)
+}
+
+// ---- settings, paths and slots
+
+// 0 for settings that are not refused.
+#[no_mangle]
+pub extern "C" fn omh_settings_refused(n: usize, m: usize, t: usize, p: usize) -> u8
+    ensures { λ r. ⌜ r ≡ verdict (settingsChecks (settings n m t p)) ⌝ }
+{
+    settings::settings_refused(settings_of(n, m, t, p))
+}
+
+#[no_mangle]
+pub extern "C" fn omh_slot_of(level: usize, q1: usize, q2: usize, q3: usize, slot: &mut usize) -> u8
+    ensures { λ r. ⌜ outcome r (now (slot .exit)) ≡ placed (slotAsked level q1 q2 q3) (now (slot .entry)) ⌝ }
+{
+    place_slot(paths::slot_of(level, q1, q2, q3), slot)
+}
+
+#[no_mangle]
+pub extern "C" fn omh_slot_above(slot: usize, above: &mut usize) -> u8
+    ensures { λ r. ⌜ outcome r (now (above .exit)) ≡ placed (aboveAsked slot) (now (above .entry)) ⌝ }
+{
+    place_slot(paths::slot_above(slot), above)
+}
+
+// 1 in the place where the slot is live, else 0.
+#[no_mangle]
+pub extern "C" fn omh_is_live(
+    n: usize,
+    m: usize,
+    t: usize,
+    p: usize,
+    slot: usize,
+    live: &mut i32,
+) -> u8
+    ensures { λ r. ⌜ outcome r (now (live .exit)) ≡ placedAs bit (liveAsked (settings n m t p) slot) (now (live .entry)) ⌝ }
+{
+    match paths::is_live(settings_of(n, m, t, p), slot) {
+        Liveness::Live(is) => {
+            *live = if is { 1 } else { 0 };
+            0
+        }
+        Liveness::Refused(k) => k,
+    }
 }
 
 // ---- the vote

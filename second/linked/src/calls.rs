@@ -10,6 +10,10 @@ use std::fmt::Write;
 pub struct Calls {
     pub words: Tally,
     pub majority: Tally,
+    pub settings_refused: Tally,
+    pub slot_of: Tally,
+    pub slot_above: Tally,
+    pub is_live: Tally,
     pub vote_at: Tally,
     pub books: Outcomes,
     pub next_exchange: Tally,
@@ -31,6 +35,7 @@ pub struct Row<'a> {
     pub outcomes: &'a Tally,
 }
 
+const SETTINGS: &[u8] = &[1, 2, 3, 4];
 const SETTINGS_AND_LISTS: &[u8] = &[1, 2, 3, 4, 5];
 const FILLING: &[u8] = &[1, 2, 3, 4, 5, 6, 7];
 const ENTERING_A_FRAME: &[u8] = &[1, 2, 3, 4, 5, 8, 9, 10, 11, 12, 13, 14, 15];
@@ -42,6 +47,10 @@ impl Calls {
         vec![
             row("read, wrap", &[], &self.words),
             row("majority", &[], &self.majority),
+            row("settings", SETTINGS, &self.settings_refused),
+            row("slot_of", &[8], &self.slot_of),
+            row("slot_above", &[8], &self.slot_above),
+            row("is_live", SETTINGS, &self.is_live),
             row("vote_at", &[1, 2, 3, 4, 5, 8], &self.vote_at),
             row("open", SETTINGS_AND_LISTS, &self.books.open),
             row("enter", &[1, 2, 3, 4, 5, 8], &self.books.enter),

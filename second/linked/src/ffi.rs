@@ -6,7 +6,7 @@
 
 use second::exchange::Exchange;
 use second::frames::Record;
-use second::paths::Settings;
+use second::paths::{Settings, ROUNDS};
 
 /// A frame's fields, and the longest text of a listing.
 pub const FIELDS: usize = 8;
@@ -18,6 +18,10 @@ extern "C" {
     fn omh_wrap(word: i32) -> i32;
     fn omh_unwrap(word: i32) -> i32;
     fn omh_majority(list: *const i32, list_len: usize) -> i32;
+    fn omh_settings_refused(n: usize, m: usize, t: usize, p: usize) -> u8;
+    fn omh_slot_of(level: usize, q1: usize, q2: usize, q3: usize, slot: *mut usize) -> u8;
+    fn omh_slot_above(slot: usize, above: *mut usize) -> u8;
+    fn omh_is_live(n: usize, m: usize, t: usize, p: usize, slot: usize, live: *mut i32) -> u8;
     fn omh_vote_at(
         n: usize,
         m: usize,
@@ -174,6 +178,27 @@ pub fn unwrap(word: i32) -> i32 {
 
 pub fn majority(list: &[i32]) -> i32 {
     unsafe { omh_majority(list.as_ptr(), list.len()) }
+}
+
+// Settings and paths
+
+pub fn settings_refused(settings: Settings) -> u8 {
+    let Settings { n, m, t, p } = settings;
+    unsafe { omh_settings_refused(n, m, t, p) }
+}
+
+pub fn slot_of(level: usize, relays: [usize; ROUNDS], slot: &mut usize) -> u8 {
+    let [q1, q2, q3] = relays;
+    unsafe { omh_slot_of(level, q1, q2, q3, slot) }
+}
+
+pub fn slot_above(slot: usize, above: &mut usize) -> u8 {
+    unsafe { omh_slot_above(slot, above) }
+}
+
+pub fn is_live(settings: Settings, slot: usize, live: &mut i32) -> u8 {
+    let Settings { n, m, t, p } = settings;
+    unsafe { omh_is_live(n, m, t, p, slot, live) }
 }
 
 // The vote

@@ -21,6 +21,7 @@ pub mod frames;
 pub mod lent;
 pub mod listing;
 pub mod options;
+pub mod paths;
 pub mod patterns;
 pub mod progress;
 pub mod random;

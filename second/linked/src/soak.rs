@@ -8,6 +8,7 @@ use crate::ffi::{FIELDS, TEXT};
 use crate::frames::{self, any_record, frame_of, record_for};
 use crate::lent::Lent;
 use crate::listing::{self, list};
+use crate::paths::{any_path, is_live, settings_refused, slot_above, slot_of};
 use crate::random::{self, Random};
 use crate::runs::Run;
 use crate::settings::{all_rounds, any, any_slot};
@@ -24,11 +25,12 @@ pub struct Soak {
 }
 
 /// How often each kind of batch comes.
-const MIX: [(usize, fn(&mut Soak)); 9] = [
+const MIX: [(usize, fn(&mut Soak)); 10] = [
     (200, Soak::words),
     (160, Soak::majorities),
     (70, Soak::exchange_numbers),
     (250, Soak::frames),
+    (50, Soak::paths),
     (250, Soak::votes),
     (47, Soak::run),
     (250, Soak::books),
@@ -116,6 +118,20 @@ impl Soak {
             self.calls.read_frame.count(frames::read(&frame, before));
             let length = random.length(FRAME_LENGTH);
             self.calls.write_frame.count(frames::write(&record, &random.bytes(length)));
+        }
+    }
+
+    /// Settings with a slot, the slot above it, and a path.
+    fn paths(&mut self) {
+        let (random, calls) = (&mut self.random, &mut self.calls);
+        for _ in 0..50 {
+            let (settings, slot, before) = (any(random), any_slot(random), word(random));
+            calls.settings_refused.count(settings_refused(settings));
+            calls.is_live.count(is_live(settings, slot, before));
+            let (level, relays) = any_path(random);
+            let before = random.bits() as usize;
+            calls.slot_of.count(slot_of(level, relays, before));
+            calls.slot_above.count(slot_above(slot, before));
         }
     }
 

@@ -8,6 +8,7 @@ use linked::ffi::{FIELDS, TEXT};
 use linked::frames::{frame_of, read, record_for, write};
 use linked::lent::Lent;
 use linked::listing::{list, EXCEPTION, HEAD};
+use linked::paths::{is_live, settings_refused, slot_above, slot_of};
 use linked::vote::vote_at;
 use second::exchange::PLACES;
 use second::frames::Record;
@@ -26,6 +27,8 @@ const LENGTH: Fault = ("length", 5);
 const X: Fault = ("x", 6);
 const STATUS: Fault = ("status", 7);
 const SLOT: Fault = ("slot", 8);
+const LEVEL: Fault = ("level", 8);
+const RELAY: Fault = ("relay", 8);
 const FRAME_SIZE: Fault = ("frame size", 9);
 const MARK: Fault = ("mark", 10);
 const VERSION: Fault = ("version", 11);
@@ -104,6 +107,17 @@ fn every_set<T>(order: &[Fault], call: impl Fn(&Faults) -> Result<T, Refusal>) {
         let first = faults.0.first().map_or(0, |fault| fault.1);
         assert_eq!(number_of(&call(&faults)), first, "{:?}", faults.0);
     }
+}
+
+#[test]
+fn settings_and_paths() {
+    let order = [N, M, T, P];
+    every_set(&order, |faults| settings_refused(faults.settings()));
+    every_set(&order, |faults| is_live(faults.settings(), LIVE, 9));
+    every_set(&[LEVEL, RELAY], |faults| {
+        slot_of(faults.choose(LEVEL, 4, 2), [9, faults.choose(RELAY, 10, 9), 10], 9)
+    });
+    every_set(&[SLOT], |faults| slot_above(faults.choose(SLOT, SLOTS, SLOTS - 1), 9));
 }
 
 #[test]
