@@ -1,7 +1,15 @@
 /*
  * What C sees of Domewhistle: the functions of the archive libomh.a. Each is
  * proved: it takes any numbers and any content of the lent memory, ends, and
- * does what document 01 says.
+ * does what stands here and, with every rule, in docs/FORMATS.md.
+ *
+ * Settings: n cards, 1 to 10, numbered from 0; m rounds of relay, 0 to 3 and
+ * below n; the sender t and the own card p, both below n. A word comes to p on
+ * a path: from the sender, by up to m relays. The path's level is the number
+ * of its relays. Its slot is 0 at level 0, and 10 k + 1 + q where the relay q
+ * makes the path at slot k longer. A slot is live for p if it has a path of
+ * level at most m whose relays are below n, all different, and neither t nor
+ * p; where p is t only slot 0 is live.
  *
  * A list is a pointer and its length, counted in elements; a place for one
  * word, the eight fields and the text are pointers alone. No pointer is null,
@@ -14,9 +22,10 @@
  * No function keeps anything between calls: any number of threads may call at
  * once, on different lists.
  *
- * Unless said otherwise an answer is 0, or the refusal's number of document
- * 01; after a refusal no lent memory differs. The numbers that a function may
- * give stand beside it, in the order of its checks.
+ * Unless said otherwise an answer is 0, or a refusal's number, OMH_REFUSED_;
+ * after a refusal no lent memory differs. The numbers that a function may give
+ * stand beside it in the order of its checks, and the first that applies is
+ * given.
  */
 #ifndef OMH_H
 #define OMH_H
@@ -41,8 +50,21 @@ enum {
     OMH_TEXT = 176      /* the longest text of a listing fits */
 };
 
-/* Missing, unwrapped: document 01's E. */
+/* Words from -999,999,999 to 999,999,999 are ordinary. OMH_E is missing, and
+   OMH_E + w, for w from 1 to 3, missing and wrapped w times. Every other
+   number is bad. */
 #define OMH_E INT32_C(1000000000)
+
+/* A card's status on the bench; 0 from card n up. */
+enum {
+    OMH_GOOD = 0,       /* sends its value, as a relay what it received, read and wrapped */
+    OMH_ARBITRARY = 1,  /* sends each receiver the table's word for that receiver */
+    OMH_SYMMETRIC = 2,  /* sends everyone the table's word for receiver 0 */
+    OMH_MANIFEST = 3    /* sends nothing: everyone receives OMH_E */
+};
+
+/* The byte of a frame for a relay that its level has not. */
+enum { OMH_NO_RELAY = 255 };
 
 /* Stack: no call of the function takes more bytes beyond its caller's frame,
    whatever it is given, in the archive for x86-64 and in the one for Arm. What
@@ -77,24 +99,24 @@ enum {
     OMH_STACK_REFUSED = 1024    /* omh_list, for a file that is refused */
 };
 
-/* Refusal numbers, document 01's table. */
+/* Refusal numbers, each with when it is given. */
 enum {
-    OMH_REFUSED_CARDS = 1,
-    OMH_REFUSED_ROUNDS = 2,
-    OMH_REFUSED_SENDER = 3,
-    OMH_REFUSED_OWN = 4,
-    OMH_REFUSED_LONG = 5,
-    OMH_REFUSED_VALUE = 6,
-    OMH_REFUSED_STATUS = 7,
-    OMH_REFUSED_PATH = 8,
-    OMH_REFUSED_SIZE = 9,
-    OMH_REFUSED_MARK = 10,
-    OMH_REFUSED_VERSION = 11,
-    OMH_REFUSED_OLD = 12,
-    OMH_REFUSED_AHEAD = 13,
-    OMH_REFUSED_FORM = 14,
-    OMH_REFUSED_FOREIGN = 15,
-    OMH_REFUSED_EXCEPTION = 16
+    OMH_REFUSED_CARDS = 1,      /* n is not 1 to 10 */
+    OMH_REFUSED_ROUNDS = 2,     /* m is over 3 or not below n */
+    OMH_REFUSED_SENDER = 3,     /* t is not below n */
+    OMH_REFUSED_OWN = 4,        /* p is not below n */
+    OMH_REFUSED_LONG = 5,       /* a lent list or the buffer for a frame has another length */
+    OMH_REFUSED_VALUE = 6,      /* the sender's value x is not ordinary */
+    OMH_REFUSED_STATUS = 7,     /* a status byte is over 3, or not 0 from card n up */
+    OMH_REFUSED_PATH = 8,       /* the path or slot is not live for p; there is no such path, or no slot above */
+    OMH_REFUSED_SIZE = 9,       /* a frame is not 17 bytes; a listing file is not 24 bytes and 7 to an exception */
+    OMH_REFUSED_MARK = 10,      /* a frame does not begin with OMH, a listing file not with OMX */
+    OMH_REFUSED_VERSION = 11,   /* the version is not 1 */
+    OMH_REFUSED_OLD = 12,       /* the frame is old: its age is 1 to 32,767 */
+    OMH_REFUSED_AHEAD = 13,     /* the frame is ahead: its age is 32,768 to 65,535 */
+    OMH_REFUSED_FORM = 14,      /* sender, receiver or used relay over 9, level over 3, or an unused relay not 255 */
+    OMH_REFUSED_FOREIGN = 15,   /* the frame's sender is not t, or its receiver not p */
+    OMH_REFUSED_EXCEPTION = 16  /* listing file: over 64 exceptions, a slot over 1,110 or a receiver over 9 */
 };
 
 /* A frame's fields, by their place in the list that omh_read_frame fills. */
@@ -111,9 +133,20 @@ enum {
 
 /* ---- words: these answer a word, and refuse nothing */
 
+/* The word as it reads at a level: itself if it is ordinary, OMH_E, or wrapped
+   no more often than the level; else OMH_E. */
 int32_t omh_read_at(size_t level, int32_t word);
+
+/* A missing word wrapped once more, OMH_E for the fourth time and for a bad
+   word; an ordinary word is itself. */
 int32_t omh_wrap(int32_t word);
+
+/* A missing word with one wrap less; OMH_E for OMH_E and for a bad word; an
+   ordinary word is itself. */
 int32_t omh_unwrap(int32_t word);
+
+/* The word that has more than half of the list once OMH_E is struck from it,
+   else OMH_E. */
 int32_t omh_majority(const int32_t *list, size_t list_len);
 
 /* ---- settings, paths and slots */
@@ -136,29 +169,31 @@ uint8_t omh_is_live(size_t n, size_t m, size_t t, size_t p,
 
 /* ---- the vote: 1, 2, 3, 4, 5, 8 */
 
+/* At a slot, from the words of a book alone. */
 uint8_t omh_vote_at(size_t n, size_t m, size_t t, size_t p,
                     const int32_t *words, size_t words_len,
                     size_t slot, int32_t *vote);
 
-/* ---- the book: two lists of OMH_SLOTS words */
+/* ---- the book: two lists of OMH_SLOTS words, those received and the votes */
 
-/* 1, 2, 3, 4, 5 */
+/* Sets every word and every vote to OMH_E. 1, 2, 3, 4, 5 */
 uint8_t omh_open(size_t n, size_t m, size_t t, size_t p,
                  int32_t *words, size_t words_len,
                  int32_t *votes, size_t votes_len);
 
-/* 1, 2, 3, 4, 5, 8 */
+/* Stores a word at a slot, and makes the votes there and at each slot above
+   again. 1, 2, 3, 4, 5, 8 */
 uint8_t omh_enter(size_t n, size_t m, size_t t, size_t p,
                   int32_t *words, size_t words_len,
                   int32_t *votes, size_t votes_len,
                   size_t slot, int32_t word);
 
-/* 1, 2, 3, 4, 5 */
+/* Makes every live vote again from the words. 1, 2, 3, 4, 5 */
 uint8_t omh_refill(size_t n, size_t m, size_t t, size_t p,
                    const int32_t *words, size_t words_len,
                    int32_t *votes, size_t votes_len);
 
-/* 5 */
+/* The vote at slot 0 as it stands: what the card answers. 5 */
 uint8_t omh_held_answer(const int32_t *words, size_t words_len,
                         const int32_t *votes, size_t votes_len,
                         int32_t *answer);
@@ -171,7 +206,7 @@ uint16_t omh_next_exchange(uint16_t x);
 /* The current number less the frame's, modulo 65,536. */
 uint16_t omh_age(uint16_t current, uint16_t frame);
 
-/* 0 for current, 12 for old, 13 for ahead. */
+/* By the age: 0 for current, 12 for old, 13 for ahead. */
 uint8_t omh_age_class(uint16_t current, uint16_t frame);
 
 /* Puts a frame's fields in the eight places. 9, 10, 11, 14 */
@@ -229,7 +264,8 @@ uint8_t omh_bound(size_t n, size_t m,
 
 /* Puts the text of a listing file at the start of the OMH_TEXT places and
    answers its length; the places after it are untouched. For a file that is
-   refused the text is the line `refused K`. */
+   refused the text is the line `refused K`, by the checks
+   9, 10, 11, 16, 9, 1, 2, 3, 7, 6, 16 in this order. */
 size_t omh_list(const uint8_t *file, size_t file_len, uint8_t text[OMH_TEXT]);
 
 #ifdef __cplusplus
