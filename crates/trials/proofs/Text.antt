@@ -1,6 +1,7 @@
 -- The text of a file: its card lines from all answers, and the whole as it is stored.
 use Prim.Native.Nat.{ℕ, _≤_, _<_}
 use mathlib.Core.Path.{_≡_, refl, ap, _∙_}
+use mathlib.Core.Bool.{Bool}
 use mathlib.Core.List.{List, _++_}
 use native.Mathlib.Nat.{zero-add}
 use native.Mathlib.Omega.{arith}
@@ -15,7 +16,7 @@ use Rattle.ground.proofs.Bools.{cond-yes}
 use Rattle.ground.proofs.Lists.{length-table, at-table}
 use Rattle.text.specs.Decimal.{decimalOf}
 use Rattle.text.proofs.Laws.{length-text}
-use Rattle.settings.specs.Settings.{fits}
+use Rattle.settings.specs.Settings.{mostCards, fits}
 use Rattle.settings.specs.declared.Rack.{Rack}
 use Rattle.vote.specs.Vote.{ruleOf}
 use Rattle.exchange.specs.Exchange.{statusesOf, answerOf}
@@ -43,6 +44,10 @@ module _ (file : List ℕ) where
 
   pub length-cards : length (lines (fits (turnIn file .rack)) (cardLine file) 10) ≤ 160
   length-cards = length-lines (fits (turnIn file .rack)) (cardLine file) (λ p. length-line p _ _) 10
+
+  -- by the bound's answer
+  pub listed-as : {held : Bool} → held ≡ bounded (turnIn file .rack) (statusesOf (statuses file)) → lines (fits (turnIn file .rack)) (cardLine file) mostCards ++ boundLine held ≡ listed file
+  listed-as e = rw e
 
   pub length-listed : length (listed file) ≤ 175
   length-listed =

@@ -95,17 +95,18 @@ fn put_refused(no: u8, text: &mut [u8]) -> usize
     put(&ENDING, end, text)
 }
 
-// Stores the lines of the cards of a file with this head.
-fn put_cards(file: &[u8], h: Head, text: &mut [u8]) -> usize
-    requires { ⌜ Accepted (now file) h × (length (now text) ≡ 176) ⌝ }
-    ensures { λ r. ⌜ Stored (now (text .entry)) 0 (lines (fits (turnIn (now (file .entry)) .rack)) (cardLine (now (file .entry))) mostCards) r (now (text .exit)) ⌝ }
+// Stores the lines of the cards of a file with this head, and then the last line.
+fn put_cards(file: &[u8], h: Head, last: &[u8], text: &mut [u8]) -> usize
+    requires { ⌜ Accepted (now file) h × (length (now last) ≤ 16) × (length (now text) ≡ 176) ⌝ }
+    ensures { λ r. ⌜ Stored (now (text .entry)) 0 (lines (fits (turnIn (now (file .entry)) .rack)) (cardLine (now (file .entry))) mostCards ++ now (last .entry)) r (now (text .exit)) ⌝ }
 {
     let turn = h.turn;
     let mut table = [E; exchange::TABLE];
     files::tell(file, &mut table);
     let mut answers = [E; Settings::MAX_CARDS];
     bench::all_answers(turn, h.x, &file[8..18], &table, &mut answers);
-    put_lines(turn.rack, &file[8..18], &answers, text)
+    let end = put_lines(turn.rack, &file[8..18], &answers, text);
+    put(last, end, text)
 }
 
 // Stores the text of a file with this head. Two calls of `put_cards` keep it a function of its own in the archive, so that a refused file does not take the table's stack.
@@ -115,14 +116,8 @@ fn put_listed(file: &[u8], h: Head, text: &mut [u8]) -> usize
 {
     let turn = h.turn;
     match bound::bound(turn.rack, &file[8..18]) {
-        Bounded::Held => {
-            let end = put_cards(file, h, text);
-            put(&HELD, end, text)
-        }
-        Bounded::NotHeld => {
-            let end = put_cards(file, h, text);
-            put(&NOT_HELD, end, text)
-        }
+        Bounded::Held => put_cards(file, h, &HELD, text),
+        Bounded::NotHeld => put_cards(file, h, &NOT_HELD, text),
         Bounded::Refused(no) => put_refused(no, text),
     }
 }

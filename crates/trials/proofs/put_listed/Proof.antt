@@ -7,8 +7,8 @@ use Rattle.bound.specs.Bound.{ofBounded}
 use Rattle.files.proofs.Good.{file-good}
 use Rattle.trials.specs.Listing.{boundLine}
 use Rattle.trials.proofs.Asking.{bound-is, bound-given}
-use Rattle.trials.proofs.Storing.{then, kept, renamed}
-use Rattle.trials.proofs.Text.{length-cards}
+use Rattle.trials.proofs.Storing.{renamed}
+use Rattle.trials.proofs.Text.{listed-as}
 use Rattle.trials.proofs.put_listed.Statement.{statement}
 use Rattle.trials.proofs.put_listed.Tie as tie
 
@@ -29,32 +29,20 @@ bound-requires c κs = search needs
 enum-told : tie.Need-enum-told
 enum-told c = search needs
 
+slice-aggregate-put-cards : tie.Need-slice-aggregate-put-cards
+slice-aggregate-put-cards c = search needs
+
 put-cards-requires : tie.Need-put-cards-requires
 put-cards-requires c κs = search needs
-
-slice-aggregate-put : tie.Need-slice-aggregate-put
-slice-aggregate-put c = search needs
-
-put-requires : tie.Need-put-requires
-put-requires c κs =
-    let cards = c .before .before .before .before in
-    let start = cards .before .before .before .before .before .before .before .before .before in
-    omega (arith, start .pre .1, cards .put-cards .ensures .ends, kept (cards .put-cards .ensures), length-cards (now (start .args .file)))
 
 enum-told-2 : tie.Need-enum-told-2
 enum-told-2 c = search needs
 
+slice-aggregate-put-cards-2 : tie.Need-slice-aggregate-put-cards-2
+slice-aggregate-put-cards-2 c = search needs
+
 put-cards-requires-2 : tie.Need-put-cards-requires-2
 put-cards-requires-2 c κs = search needs
-
-slice-aggregate-put-2 : tie.Need-slice-aggregate-put-2
-slice-aggregate-put-2 c = search needs
-
-put-requires-2 : tie.Need-put-requires-2
-put-requires-2 c κs =
-    let cards = c .before .before .before .before in
-    let start = cards .before .before .before .before .before .before .before .before .before in
-    omega (arith, start .pre .1, cards .put-cards2 .ensures .ends, kept (cards .put-cards2 .ensures), length-cards (now (start .args .file)))
 
 enum-known-no : tie.Need-enum-known-no
 enum-known-no c = search needs
@@ -68,13 +56,11 @@ same-length c = search needs
 returns : tie.Need-returns
 unfolding boundLine
 returns c =
-    let stored = c .before .before in
-    let cards = stored .before .before .before .before .before in
-    let arm = cards .before .before in
+    let cards = c .before .before in
+    let arm = cards .before .before .before in
     let call = arm .before .before in
     let start = call .before .before .before .before .before in
-    then _ _ (cards .put-cards .ensures)
-    (renamed (ap boundLine (bound-is (now (start .args .file)) (start .pre .0) (sym (ap ofBounded (arm .enum-told .given .1)) ∙ call .bound .ensures))) (stored .put .ensures))
+    renamed (listed-as (now (start .args .file)) (bound-is (now (start .args .file)) (start .pre .0) (sym (ap ofBounded (arm .enum-told .given .1)) ∙ call .bound .ensures))) (cards .put-cards .ensures)
 
 same-length-2 : tie.Need-same-length-2
 same-length-2 c = search needs
@@ -82,13 +68,11 @@ same-length-2 c = search needs
 returns-2 : tie.Need-returns-2
 unfolding boundLine
 returns-2 c =
-    let stored = c .before .before in
-    let cards = stored .before .before .before .before .before in
-    let arm = cards .before .before in
+    let cards = c .before .before in
+    let arm = cards .before .before .before in
     let call = arm .before .before in
     let start = call .before .before .before .before .before in
-    then _ _ (cards .put-cards2 .ensures)
-    (renamed (ap boundLine (bound-is (now (start .args .file)) (start .pre .0) (sym (ap ofBounded (arm .enum-told2 .given .1)) ∙ call .bound .ensures))) (stored .put2 .ensures))
+    renamed (listed-as (now (start .args .file)) (bound-is (now (start .args .file)) (start .pre .0) (sym (ap ofBounded (arm .enum-told2 .given .1)) ∙ call .bound .ensures))) (cards .put-cards2 .ensures)
 
 same-length-3 : tie.Need-same-length-3
 same-length-3 c = search needs
@@ -104,4 +88,4 @@ returns-3 c =
 pub put-listed-spec : {M : Type 1} → statement M
 put-listed-spec =
     tie.close
-    (tie.spec sub-bound part-bound-start part-bound-end bound-requires enum-told put-cards-requires slice-aggregate-put put-requires enum-told-2 put-cards-requires-2 slice-aggregate-put-2 put-requires-2 enum-known-no put-refused-requires same-length returns same-length-2 returns-2 same-length-3 returns-3)
+    (tie.spec sub-bound part-bound-start part-bound-end bound-requires enum-told slice-aggregate-put-cards put-cards-requires enum-told-2 slice-aggregate-put-cards-2 put-cards-requires-2 enum-known-no put-refused-requires same-length returns same-length-2 returns-2 same-length-3 returns-3)
