@@ -24,11 +24,12 @@ static void print_help(void)
     for (size_t i = 0; i < COMMANDS; i++)
         printf("  %-6s %s\n", commands[i]->name, commands[i]->purpose);
     puts("\n"
-         "What the library refuses is printed as `refused K`, K being the number in\n"
-         "document 01's table; its meaning follows on standard error.\n"
+         "What the library refuses is printed as a line that begins with `refused K`, K\n"
+         "being the number in document 01's table, and says which field is wrong; of a\n"
+         "listing file standard error says it.\n"
          "\n"
-         "Exit status: 0 if all was done; 1 for a refusal or a failed soak; 2 for wrong\n"
-         "usage, or where a file cannot be read or written.");
+         "Exit status: 0 if all was done; 1 for a refusal, a garbled line or a failed\n"
+         "soak; 2 for wrong usage, or where a file cannot be read or written.");
 }
 
 static bool asks_for_help(int count, char **arguments)

@@ -5,7 +5,7 @@
 /* Exit statuses. */
 enum {
     DONE = 0,
-    REFUSED = 1,     /* the library refused, or a soak failed */
+    REFUSED = 1,     /* the library refused, a line was garbled, or a soak failed */
     NOT_DONE = 2     /* wrong usage, or a file that cannot be read or written */
 };
 

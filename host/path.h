@@ -1,4 +1,4 @@
-/* Paths and their slots, document 01's 'Settings and paths'; for the soak, which compares the library with it. */
+/* Paths and their slots, document 01's 'Settings and paths', to say why a path is not live and to compare the library with. */
 #ifndef PATH_H
 #define PATH_H
 

@@ -39,27 +39,38 @@ many() { # NUMBER SLOT
     local i
     for ((i = 0; i < $1; i++)); do echo "$2 09 00000000"; done
 }
-refused 'a slot over 1,110' 16 '' list "$(top 02 00 00 $good 00000007 0001)" '0457 00 00000000'
-refused 'a receiver over 9' 16 '' list "$(top 02 00 00 $good 00000007 0001)" '0456 0A 00000000'
 gives '64 exceptions' 0 $'0 0 7\n1 0 7\nbound held\n' list "$(top 02 00 00 $good 00000007 0040)" "$(many 64 0456)"
-refused '65 exceptions' 16 '' list "$(top 02 00 00 $good 00000007 0041)" "$(many 65 0456)"
-refused 'an empty file' 9 '' "$bench" list /dev/null
-refused 'a file of 23 bytes' 9 '' "$bench" list - < <(bytes "$(top 02 00 00 $good 00000007 00)")
-refused 'a byte too many' 9 '' list "$example" 00
-refused 'a byte too few' 9 '' list "${example%??}"
-refused 'another mark' 10 '' list "${example/4F4D58/4F4D48}"
-refused 'another version' 11 '' list "${example/0001/0002}"
-refused 'no card' 1 '' list "$(top 00 00 00 $good 00000007 0000)"
-refused 'as many rounds as cards' 2 '' list "$(top 02 02 00 $good 00000007 0000)"
-refused 'a sender that is not there' 3 '' list "$(top 02 00 02 $good 00000007 0000)"
-refused 'a status over 3' 7 '' list "$(top 02 00 00 00040000000000000000 00000007 0000)"
-refused 'a status from card n up' 7 '' list "$(top 02 00 00 00000100000000000000 00000007 0000)"
-refused 'a value that is not ordinary' 6 '' list "$(top 02 00 00 $good 3B9ACA00 0000)"
-refused 'a long file' 9 '' "$bench" list - < <(bytes "$example"; head -c 5000000 /dev/zero)
-refused 'zeros in a slow pipe' 10 '' "$bench" list - < <(for i in {1..20}; do printf '%02000d' 0; sleep 0.01; done)
 
-wrong 'a file that memory cannot hold' 'there is not enough memory' \
-    bash -c 'ulimit -v 50000; "$0" list - </dev/zero' "$build/bench"
+# Each refusal, with the field that is wrong.
+not_listed '65 exceptions' 16 'the listing file has 65 exceptions, over 64' \
+    list "$(top 02 00 00 $good 00000007 0041)" "$(many 65 0456)"
+not_listed 'a slot over 1,110' 16 'exception 2 has slot 1111, over 1110' \
+    list "$(top 02 00 00 $good 00000007 0002)" '0456 09 00000000' '0457 00 00000000'
+not_listed 'a receiver over 9' 16 'exception 1 has receiver 10, over 9' \
+    list "$(top 02 00 00 $good 00000007 0001)" '0456 0A 00000000'
+not_listed 'an empty file' 9 "the listing file's length is 0, under 24 bytes" "$bench" list /dev/null
+not_listed 'a file of 23 bytes' 9 "the listing file's length is 23, under 24 bytes" \
+    "$bench" list - < <(bytes "$(top 02 00 00 $good 00000007 00)")
+not_listed 'a byte too many' 9 "the listing file's length is 39, not the 38 bytes of one with 2 exceptions" list "$example" 00
+not_listed 'a byte too few' 9 "the listing file's length is 37, not the 38 bytes of one with 2 exceptions" list "${example%??}"
+not_listed 'another mark' 10 "the listing file's mark is 4F4D48, not 4F4D58" list "${example/4F4D58/4F4D48}"
+not_listed 'another version' 11 "the listing file's version is 258, not 1" list "${example/0001/0102}"
+not_listed 'no card' 1 'N is 0, not 1 to 10' list "$(top 00 00 00 $good 00000007 0000)"
+not_listed 'as many rounds as cards' 2 'M is 2, not below N, which is 2' list "$(top 02 02 00 $good 00000007 0000)"
+not_listed 'a sender that is not there' 3 'T is 2, not below N, which is 2' list "$(top 02 00 02 $good 00000007 0000)"
+not_listed 'a status over 3' 7 'card 1 has status 4, over 3' list "$(top 02 00 00 03040000000000000100 00000007 0000)"
+not_listed 'a status from card n up' 7 'card 8 has status 1, not 0, and the last card is 1' \
+    list "$(top 02 00 00 03000000000000000100 00000007 0000)"
+not_listed 'a value that is not ordinary' 6 'X is -1000000000, not -999999999 to 999999999' \
+    list "$(top 02 00 00 $good C4653600 0000)"
+not_listed 'zeros in a slow pipe' 10 '*' "$bench" list - < <(for i in {1..20}; do printf '%02000d' 0; sleep 0.01; done)
+
+# A file of any length is read to its end, in the memory that a short one takes.
+not_listed 'a file of 100 MB' 9 "the listing file's length is 100000038, not the 38 bytes of one with 2 exceptions" \
+    small list - < <(bytes "$example"; head -c 100000000 /dev/zero)
+not_listed 'a byte more than the longest' 9 "the listing file's length is 473, not the 472 bytes of one with 64 exceptions" \
+    list "$(top 02 00 00 $good 00000007 0040)" "$(many 64 0456)" 00
+
 wrong 'list without a file' 'list takes one argument: FILE; see bench --help' "$bench" list
 wrong 'list with two files' 'list takes one argument: FILE; see bench --help' "$bench" list a b
 wrong 'a file that is not there' "$scratch/none: No such file or directory" "$bench" list "$scratch/none"
