@@ -94,7 +94,7 @@ static int run(int count, char **arguments)
         return wrong_usage("card takes four or five arguments: N M T P [EXCHANGE]");
     struct card card;
     if (!take_settings(count, arguments, &card))
-        return NOT_DONE;
+        return WRONG_USAGE;
     uint8_t refused = book_open(&card.settings, &card.book);
     if (refused != 0) {
         print_not_opened(refused, &card.settings);
@@ -105,4 +105,4 @@ static int run(int count, char **arguments)
     return each_line(take_line, &card);
 }
 
-const struct command card_command = {"card", "enters frames in a card's book, and tells its held answer", help, run};
+const struct command card_command = {"card", "enters frames in a card's book, and tells its held answer", help, NULL, run};

@@ -15,7 +15,7 @@ static const char help[] =
     "       bench frame show [HEX..]\n"
     "\n"
     "make prints the 17 bytes of the frame with these fields, in hex. Q1, Q2 and Q3\n"
-    "are the relays, - where the level has none.\n"
+    "are the relays, - where the level has none. WORD is - for E.\n"
     "\n"
     "show prints the fields of the frame with these bytes, a line each. HEX is pairs\n"
     "of hex digits, with or without blanks between the pairs. Without HEX it shows\n"
@@ -32,6 +32,12 @@ static const char help[] =
 static bool is_relay(size_t field)
 {
     return field == OMH_Q1 || field == OMH_Q2 || field == OMH_Q3;
+}
+
+/* Whether - stands for a value: an unused relay, or the word E. */
+static bool is_none(size_t field, int32_t value)
+{
+    return is_relay(field) ? value == NO_RELAY : field == OMH_WORD && value == OMH_E;
 }
 
 static bool take_field(size_t field, const char *text, int32_t *value)
@@ -56,7 +62,7 @@ static int make(int count, char **arguments)
     int32_t fields[OMH_FIELDS];
     for (size_t i = 0; i < OMH_FIELDS; i++)
         if (!take_field(i, arguments[i], &fields[i]))
-            return NOT_DONE;
+            return WRONG_USAGE;
     uint8_t frame[OMH_FRAME];
     uint8_t refused = fields_write(fields, frame, OMH_FRAME);
     if (refused != 0) {
@@ -77,7 +83,7 @@ static bool show_frame(const struct bytes *frame, uint64_t line)
         return false;
     }
     for (size_t i = 0; i < OMH_FIELDS; i++) {
-        if (is_relay(i) && fields[i] == NO_RELAY)
+        if (is_none(i, fields[i]))
             printf("%-8s  -\n", field_names[i]);
         else
             printf("%-8s  %" PRId32 "\n", field_names[i], fields[i]);
@@ -112,7 +118,7 @@ static int show(int count, char **arguments)
             continue;
         fprintf(stderr, "bench: HEX, column %" PRIu64 ": ", hex.column);
         hex_print_wrong(&hex, stderr);
-        return NOT_DONE;
+        return WRONG_USAGE;
     }
     return show_frame(&hex.bytes, 0) ? DONE : REFUSED;
 }
@@ -126,4 +132,4 @@ static int run(int count, char **arguments)
     return wrong_usage("frame is followed by make or show");
 }
 
-const struct command frame_command = {"frame", "makes a frame of its fields, or shows a frame's fields", help, run};
+const struct command frame_command = {"frame", "makes a frame of its fields, or shows a frame's fields", help, NULL, run};

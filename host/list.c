@@ -54,4 +54,4 @@ static int run(int count, char **arguments)
     return status;
 }
 
-const struct command list_command = {"list", "lists the outcome of a listing file", help, run};
+const struct command list_command = {"list", "lists the outcome of a listing file", help, NULL, run};

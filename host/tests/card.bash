@@ -112,13 +112,15 @@ refused 'a sender that is not there' '3: T is 4, not below N, which is 4' '' "$b
 refused 'an own card that is not there' '4: P is 18446744073709551615, not below N, which is 4' '' \
     "$bench" card 4 1 0 18446744073709551615 </dev/null
 
-wrong 'card with three numbers' 'card takes four or five arguments: N M T P \[EXCHANGE\]; see bench --help' "$bench" card 4 1 0
-wrong 'card with six numbers' 'card takes four or five arguments: *' "$bench" card 4 1 0 3 0 0
-wrong 'N is no number' "N is a number from 0 to *, not 'four'" "$bench" card four 1 0 3
-wrong 'M is negative' "M is a number from 0 to *, not '-1'" "$bench" card 4 -1 0 3
-wrong 'T is too large' "T is a number from 0 to *, not '18446744073709551616'" "$bench" card 4 1 18446744073709551616 3
-wrong 'P is empty' "P is a number from 0 to *, not ''" "$bench" card 4 1 0 ''
-wrong 'EXCHANGE is too large' "EXCHANGE is a number from 0 to 65535, not '65536'" "$bench" card 4 1 0 3 65536
+misused 'card with three numbers' 'card takes four or five arguments: N M T P \[EXCHANGE\]' "$bench" card 4 1 0
+misused 'card with six numbers' 'card takes four or five arguments: *' "$bench" card 4 1 0 3 0 0
+misused 'N is no number' "N is a number from 0 to *, not 'four'" "$bench" card four 1 0 3
+misused 'M is negative' "M is a number from 0 to *, not '-1'" "$bench" card 4 -1 0 3
+misused 'T is too large' "T is a number from 0 to *, not '18446744073709551616'" "$bench" card 4 1 18446744073709551616 3
+misused 'P is empty' "P is a number from 0 to *, not ''" "$bench" card 4 1 0 ''
+misused 'an option of a card' "card has no option '--exchange'" "$bench" card 4 1 0 3 --exchange 5
+gives 'leading zeros' 0 $'answer -\n' "$bench" card 04 001 00 03 00000000000000000000007 </dev/null
+misused 'EXCHANGE is too large' "EXCHANGE is a number from 0 to 65535, not '65536'" "$bench" card 4 1 0 3 65536
 
 # A line of any length, in the memory that a short one takes: of digits, of blanks around a frame, of no digits, a remark.
 long() { # BYTE: ten million of it

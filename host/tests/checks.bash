@@ -35,7 +35,15 @@ says() { # NAME PATTERN
     match "$1, standard error" "$2" "$(<"$scratch/said")"
 }
 
-# Two tests: wrong usage, or a file that cannot be read or written.
+# Two tests: wrong usage of a command, whose help is then named.
+misused() { # NAME PATTERN BENCH COMMAND ARGUMENT..
+    local name=$1 pattern=$2 command=$4
+    shift 2
+    gives "$name" 2 '' "$@"
+    says "$name" "bench: $pattern"$'\n'"bench: try 'bench $command --help'"
+}
+
+# Two tests: a file that cannot be read or written.
 wrong() { # NAME PATTERN COMMAND..
     local name=$1 pattern=$2
     shift 2

@@ -20,8 +20,13 @@ made_and_shown 4F4D4800010003000102FFFF01FFFFFF88 3 0 1 2 - - 1 -120
 made_and_shown 4F4D480001FFFF09020702FF097FFFFFFF 65535 9 2 7 2 - 9 2147483647
 made_and_shown 4F4D480001010001030702090880000000 256 1 3 7 2 9 8 -2147483648
 made_and_shown 4F4D48000100010503050505053B9ACA03 1 5 3 5 5 5 5 1000000003
+made_and_shown 4F4D48000100000000FFFFFF033B9ACA00 0 0 0 - - - 3 -
 
 gives 'an unused relay as 255' 0 $'4F4D4800010003000102FFFF01FFFFFF88\n' "$bench" frame make 3 0 1 2 255 255 1 -120
+gives 'the word E as a number' 0 $'4F4D48000100000000FFFFFF033B9ACA00\n' "$bench" frame make 0 0 0 - - - 3 1000000000
+gives 'leading zeros' 0 $'4F4D4800010003000102FFFF01FFFFFF88\n' "$bench" frame make 003 00 01 002 0255 - 01 -00120
+gives 'minus 0' 0 $'4F4D48000100000000FFFFFF0300000000\n' "$bench" frame make 0 0 0 - - - 3 -0
+gives 'fields after --' 0 $'4F4D4800010003000102FFFF01FFFFFF88\n' "$bench" frame make -- 3 0 1 2 - - 1 -120
 gives 'bytes with blanks, in one argument' 0 "$(table 3 0 1 2 - - 1 -120)"$'\n' \
     "$bench" frame show ' 4f4d48 0001  0003 00 01 02ffff01 ffffff88 '
 gives 'bytes in several arguments' 0 "$(table 3 0 1 2 - - 1 -120)"$'\n' \
@@ -130,7 +135,7 @@ wrong 'frames that cannot be read' 'standard input: Is a directory' "$bench" fra
 not_a_number() { # NAME RANGE FIELD..
     local name=$1 range=$2
     shift 2
-    wrong "frame make $*" "$name is a number from $range, not '*'" "$bench" frame make "$@"
+    misused "frame make $*" "$name is a number from $range, not '*'" "$bench" frame make "$@"
 }
 
 not_a_number EXCHANGE '0 to 65535' 65536 0 0 - - - 0 0
@@ -142,23 +147,20 @@ not_a_number Q1 '0 to 255' 0 0 1 '' - - 0 0
 not_a_number Q2 '0 to 255' 0 0 2 1 ' 2' - 0 0
 not_a_number Q3 '0 to 255' 0 0 3 1 2 '3 ' 0 0
 not_a_number RECEIVER '0 to 255' 0 0 0 - - - 18446744073709551616 0
-not_a_number RECEIVER '0 to 255' 0 0 0 - - - 00 0
-not_a_number WORD '-2147483648 to 2147483647' 0 0 0 - - - 0 2147483648
-not_a_number WORD '-2147483648 to 2147483647' 0 0 0 - - - 0 -2147483649
-not_a_number WORD '-2147483648 to 2147483647' 0 0 0 - - - 0 -99999999999999999999
-not_a_number WORD '-2147483648 to 2147483647' 0 0 0 - - - 0 +1
-not_a_number WORD '-2147483648 to 2147483647' 0 0 0 - - - 0 -0
-not_a_number WORD '-2147483648 to 2147483647' 0 0 0 - - - 0 -
-not_a_number WORD '-2147483648 to 2147483647' 0 0 0 - - - 0 1.5
+not_a_number WORD '-2147483648 to 2147483647 or - for E' 0 0 0 - - - 0 2147483648
+not_a_number WORD '-2147483648 to 2147483647 or - for E' 0 0 0 - - - 0 -2147483649
+not_a_number WORD '-2147483648 to 2147483647 or - for E' 0 0 0 - - - 0 -99999999999999999999
+not_a_number WORD '-2147483648 to 2147483647 or - for E' 0 0 0 - - - 0 +1
+not_a_number WORD '-2147483648 to 2147483647 or - for E' 0 0 0 - - - 0 1.5
 
-wrong 'frame alone' 'frame is followed by make or show; see bench --help' "$bench" frame
-wrong 'frame with another word' 'frame is followed by make or show; see bench --help' "$bench" frame read 00
-wrong 'frame make with seven fields' 'frame make takes eight arguments: *' "$bench" frame make 0 0 0 - - - 0
-wrong 'frame make with nine fields' 'frame make takes eight arguments: *' "$bench" frame make 0 0 0 - - - 0 0 0
-wrong 'a letter that is no digit' "HEX, column 4: 'G' is no hex digit" "$bench" frame show '4F G0'
-wrong 'a second digit that is none' "HEX, column 2: 'x' is no hex digit" "$bench" frame show 0x4F
-wrong 'a control character' 'HEX, column 3: the byte 0A is no hex digit' "$bench" frame show $'4F\n4D'
-wrong 'half a byte at the end' 'HEX, column 3: a byte has two hex digits, here is one' "$bench" frame show 4F4
-wrong 'half a byte before a blank' 'HEX, column 1: a byte has two hex digits, here is one' "$bench" frame show '4 F4D'
+misused 'frame alone' 'frame is followed by make or show' "$bench" frame
+misused 'frame with another word' 'frame is followed by make or show' "$bench" frame read 00
+misused 'frame make with seven fields' 'frame make takes eight arguments: *' "$bench" frame make 0 0 0 - - - 0
+misused 'frame make with nine fields' 'frame make takes eight arguments: *' "$bench" frame make 0 0 0 - - - 0 0 0
+misused 'a letter that is no digit' "HEX, column 4: 'G' is no hex digit" "$bench" frame show '4F G0'
+misused 'a second digit that is none' "HEX, column 2: 'x' is no hex digit" "$bench" frame show 0x4F
+misused 'a control character' 'HEX, column 3: the byte 0A is no hex digit' "$bench" frame show $'4F\n4D'
+misused 'half a byte at the end' 'HEX, column 3: a byte has two hex digits, here is one' "$bench" frame show 4F4
+misused 'half a byte before a blank' 'HEX, column 1: a byte has two hex digits, here is one' "$bench" frame show '4 F4D'
 wrong 'a frame that cannot be written' 'standard output: No space left on device' \
     bash -c '"$0" frame make 0 0 0 - - - 0 0 >/dev/full' "$bench"

@@ -71,8 +71,11 @@ not_listed 'a file of 100 MB' 9 "the listing file's length is 100000038, not the
 not_listed 'a byte more than the longest' 9 "the listing file's length is 473, not the 472 bytes of one with 64 exceptions" \
     list "$(top 02 00 00 $good 00000007 0040)" "$(many 64 0456)" 00
 
-wrong 'list without a file' 'list takes one argument: FILE; see bench --help' "$bench" list
-wrong 'list with two files' 'list takes one argument: FILE; see bench --help' "$bench" list a b
+misused 'list without a file' 'list takes one argument: FILE' "$bench" list
+misused 'list with two files' 'list takes one argument: FILE' "$bench" list a b
+misused 'an option of list' "list has no option '--file'" "$bench" list --file
+wrong 'a file that is called as an option is' '--help: No such file or directory' "$bench" list -- --help
+wrong 'a file that is called --' '--: No such file or directory' "$bench" list -- --
 wrong 'a file that is not there' "$scratch/none: No such file or directory" "$bench" list "$scratch/none"
 wrong 'a directory' "$scratch: Is a directory" "$bench" list "$scratch"
 wrong 'closed standard input' 'standard input: Bad file descriptor' bash -c '"$0" list - <&-' "$bench"
