@@ -3,6 +3,7 @@
 #include "commands.h"
 #include "ending.h"
 #include "file_refusals.h"
+#include "notes.h"
 #include "omh.h"
 
 #include <stdlib.h>
@@ -17,6 +18,9 @@ static const char help[] =
     "`refused K`, and standard error says which field is wrong. The file is read to\n"
     "its end, however long, and only what can be accepted of it is kept.\n"
     "\n"
+    "Exceptions whose word no card receives have no effect; a note on standard error\n"
+    "tells of each, counted from 1, and why.\n"
+    "\n"
     "Exit status: 0 if listed, 1 if refused, 2 if the file cannot be read.\n";
 
 /* Prints the text of the file's listing. */
@@ -28,8 +32,10 @@ static int list(const struct bytes *file)
     text[length] = '\0';
     fwrite(text, 1, length, stdout);
     fflush(stdout);
-    if (strncmp((const char *)text, mark, sizeof mark - 1) != 0)
+    if (strncmp((const char *)text, mark, sizeof mark - 1) != 0) {
+        print_notes(file);
         return DONE;
+    }
     explain_refused_file((uint8_t)strtoul((const char *)text + sizeof mark - 1, NULL, 10), file);
     return REFUSED;
 }

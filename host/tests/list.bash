@@ -29,8 +29,9 @@ gives 'ten cards and the longest text' 0 \
     list "$(top 0A 03 09 $good C4653601 0000)"
 gives 'a manifest sender, the bound not held' 0 $'0 3 -\n1 0 -\nbound not held\n' \
     list "$(top 02 01 00 03000000000000000000 00000007 0000)"
-gives 'cards that differ, the sender arbitrary and no relay' 0 $'0 1 -\n1 0 5\n2 0 -6\nbound not held\n' \
-    list "$(top 03 00 00 01000000000000000000 00000007 0002)" '0000 01 00000005' '0000 02 FFFFFFFA'
+gives 'cards that differ, the sender arbitrary and no relay' 0 $'0 1 4\n1 0 5\n2 0 -6\nbound not held\n' \
+    list "$(top 03 00 00 01000000000000000000 00000007 0003)" '0000 00 00000004' '0000 01 00000005' '0000 02 FFFFFFFA'
+says 'cards that differ, the sender arbitrary and no relay' ''
 gives 'a later exception replaces an earlier one' 0 $'0 2 9\n1 0 9\nbound not held\n' \
     list "$(top 02 00 00 02000000000000000000 00000007 0002)" '0000 00 00000008' '0000 00 00000009'
 
@@ -40,6 +41,81 @@ many() { # NUMBER SLOT
     for ((i = 0; i < $1; i++)); do echo "$2 09 00000000"; done
 }
 gives '64 exceptions' 0 $'0 0 7\n1 0 7\nbound held\n' list "$(top 02 00 00 $good 00000007 0040)" "$(many 64 0456)"
+
+# An exception.
+exception() { # SLOT RECEIVER
+    printf '%04X %02X 00000005 ' "$1" "$2"
+}
+
+# Two tests: an exception of an accepted file changes nothing, and has this note.
+noted() { # NAME REASON TOP SLOT RECEIVER
+    local text
+    text=$(list "$3 0000")
+    gives "$1" 0 "$text"$'\n' list "$3 0001" "$(exception "$4" "$5")"
+    says "$1" "bench: note: exception 1, slot $4, receiver $5, has no effect: $2"
+}
+
+# Six cards and two rounds: card 0 arbitrary, the sender 1 symmetric, card 2 manifest, 3 good, 4 symmetric, 5 arbitrary.
+six='06 02 01 01020300020100000000 00000007'
+noted 'a level over m' 'level 3 is over M, which is 2' "$(top $six)" 134 2
+noted 'a relay that is not there' 'card 6 relays, and the last card is 5' "$(top $six)" 7 0
+noted 'a relay that is the sender' 'card 1 relays, and is the sender' "$(top $six)" 2 0
+noted 'a relay that is named twice' 'card 5 relays twice' "$(top $six)" 66 0
+noted "a good card's" 'card 3 sends on this path, and is good' "$(top $six)" 4 0
+noted "a manifest card's" 'card 2 sends on this path, and is manifest' "$(top $six)" 3 0
+noted "a symmetric card's for another than receiver 0" \
+    'card 1 sends on this path, and is symmetric: all receive the word for receiver 0' "$(top $six)" 0 2
+noted 'a receiver that is not there' 'the receiver is not there: the last card is 5' "$(top $six)" 1 6
+noted 'a receiver that relays' 'card 4 relays, and is the receiver' "$(top $six)" 51 4
+noted 'a receiver that is the sender' 'card 1 is the sender, and receives no relays' "$(top $six)" 51 1
+noted 'a path that leaves no card' 'no card is left to receive on this path' \
+    "$(top 02 01 00 00020000000000000000 00000007)" 2 0
+gives 'exceptions that are replaced' 0 $'0 2 5\n1 0 5\nbound not held\n' \
+    list "$(top 02 00 00 02000000000000000000 00000007 0003)" "$(exception 0 0)$(exception 0 0)$(exception 0 0)"
+says 'exceptions that are replaced' "$(for i in 1 2; do
+    echo "bench: note: exception $i, slot 0, receiver 0, has no effect: exception $((i + 1)) replaces it"
+done)"
+
+# Whether one of those six receives the table's word on this path, written here again.
+received() { # RECEIVER RELAY..
+    local receiver=$1 relay card=1 path=' '
+    shift
+    for relay; do
+        ((relay < 6 && relay != 1)) && [[ $path != *" $relay "* ]] || return 1
+        path+="$relay "
+        card=$relay
+    done
+    case $card in
+        0 | 5) ((receiver < 6 && receiver != 1)) && [[ $path != *" $receiver "* ]] ;;
+        1 | 4) ((receiver == 0)) ;;
+        *) return 1 ;;
+    esac
+}
+
+# Receiver, slot and relays of every path by up to two of the cards 0 to 6, to each of these cards.
+places() {
+    local p q r
+    for p in {0..6}; do
+        echo "$p 0"
+        for q in {0..6}; do
+            echo "$p $((1 + q)) $q"
+            for r in {0..6}; do echo "$p $((11 + 10 * q + r)) $q $r"; done
+        done
+    done
+}
+due='' got=''
+while mapfile -t -n 64 batch && ((${#batch[@]} > 0)); do
+    exceptions='' number=0
+    for place in "${batch[@]}"; do
+        read -r receiver slot relays <<<"$place"
+        exceptions+=$(exception "$slot" "$receiver")
+        number=$((number + 1))
+        received "$receiver" $relays || due+="exception $number, slot $slot, receiver $receiver"$'\n'
+    done
+    list "$(top $six "$(printf '%04X' "$number")")" "$exceptions" 2>"$scratch/said" >/dev/null
+    got+=$(sed 's/^bench: note: \(.*\), has no effect: ..*/\1/' "$scratch/said")$'\n'
+done < <(places)
+equal 'a note for each exception that no card receives' "$due" "$got"
 
 # Each refusal, with the field that is wrong.
 not_listed '65 exceptions' 16 'the listing file has 65 exceptions, over 64' \
