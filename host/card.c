@@ -105,4 +105,6 @@ static int run(int count, char **arguments)
     return each_line(take_line, &card);
 }
 
-const struct command card_command = {"card", "enters frames in a card's book, and tells its held answer", help, NULL, run};
+const struct command card_command = {
+    "card", "enters frames in a card's book, and tells its held answer", help, NULL, run,
+};

@@ -132,4 +132,6 @@ static int run(int count, char **arguments)
     return wrong_usage("frame is followed by make or show");
 }
 
-const struct command frame_command = {"frame", "makes a frame of its fields, or shows a frame's fields", help, NULL, run};
+const struct command frame_command = {
+    "frame", "makes a frame of its fields, or shows a frame's fields", help, NULL, run,
+};

@@ -8,8 +8,8 @@
 struct hex {
     struct bytes bytes;
     uint64_t column;        /* of the last character, from 1 */
-    char half;              /* the first digit of a byte, NUL between bytes */
-    char wrong;             /* where a character is wrong, which; a digit if it lacks its second */
+    char half;              /* the first digit of a byte whose second has not come; else NUL */
+    char wrong;             /* what is wrong: a character that is no digit, or a digit without its second */
 };
 
 /* Takes the text's next character. False if it is wrong; the column is then its own. */

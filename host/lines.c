@@ -5,16 +5,16 @@
 
 #include <inttypes.h>
 
-enum kind { PASSED_OVER, REMARK, BYTES, GARBLED };
+enum kind { BLANK, REMARK, BYTES, GARBLED };
 
 /* Reads a line of any length, to its LF or the input's end. */
 static enum kind read_line(struct line *line)
 {
-    enum kind kind = PASSED_OVER;
+    enum kind kind = BLANK;
     line->hex = (struct hex){0};
     line->number++;
     for (int c = getchar(); c != EOF && c != '\n'; c = getchar()) {
-        if (kind == PASSED_OVER && c == '#')
+        if (kind == BLANK && c == '#')
             kind = REMARK;
         if (kind == REMARK || kind == GARBLED)
             continue;

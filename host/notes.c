@@ -15,11 +15,10 @@ static size_t sending(const struct bytes *file, size_t slot)
 
 static bool is_live_for_any(const struct bytes *file, size_t slot)
 {
-    for (size_t p = 0; p < settings_in(file, p).n; p++) {
-        struct settings s = settings_in(file, p);
+    struct settings s = settings_in(file, 0);
+    for (; s.p < s.n; s.p++)
         if (is_live(&s, slot))
             return true;
-    }
     return false;
 }
 
@@ -80,7 +79,8 @@ void print_notes(const struct bytes *file)
         size_t by = replacing(file, i);
         if (received && by == i)
             continue;
-        fprintf(stderr, "bench: note: exception %zu, slot %zu, receiver %zu, has no effect: ", i + 1, e.slot, e.receiver);
+        fprintf(stderr, "bench: note: exception %zu, slot %zu, receiver %zu, has no effect: ",
+                i + 1, e.slot, e.receiver);
         if (received)
             fprintf(stderr, "exception %zu replaces it", by + 1);
         else

@@ -1,4 +1,5 @@
-/* Paths and their slots, document 01's 'Settings and paths', to say why a path is not live and to compare the library with. */
+/* Paths and their slots, document 01's 'Settings and paths': to compare the
+   library with, and to say why a path is not live. */
 #ifndef PATH_H
 #define PATH_H
 

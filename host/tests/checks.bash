@@ -67,9 +67,9 @@ not_listed() { # NAME NUMBER REASON COMMAND..
     says "$name" "bench: refused $number: $reason"
 }
 
-# Runs the bench with 8 MB of memory; the sanitizers' build would take more.
+# Runs the bench with 16 MB of memory; the sanitizers' build would take more.
 small() { # ARGUMENT..
-    bash -c 'ulimit -v 8000 && exec "$@"' small "$build/bench" "$@"
+    bash -c 'ulimit -v 16000 && exec "$@"' small "$build/bench" "$@"
 }
 
 # Writes the bytes that are given as hex, blanks between them or not.
