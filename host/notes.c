@@ -41,7 +41,8 @@ static bool is_received(const struct bytes *file, const struct exception *e)
 static void say_not_received(const struct bytes *file, const struct exception *e)
 {
     struct path path = path_of(e->slot);
-    struct settings nobody = settings_in(file, OMH_CARDS), receiver = settings_in(file, e->receiver);
+    struct settings nobody = settings_in(file, OMH_CARDS);      /* for which the path alone matters */
+    struct settings receiver = settings_in(file, e->receiver);
     size_t card = sending(file, e->slot);
     uint8_t status = status_in(file, card);
     if (!is_live(&nobody, e->slot))
