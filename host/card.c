@@ -2,9 +2,9 @@
 #include "book.h"
 #include "commands.h"
 #include "ending.h"
-#include "hex.h"
+#include "frame_refusals.h"
+#include "lines.h"
 #include "number.h"
-#include "refusals.h"
 
 #include <inttypes.h>
 
@@ -16,11 +16,17 @@ static const char help[] =
     "them, and enters each; blank lines and lines that begin with # are passed over.\n"
     "EXCHANGE is the current exchange number, 0 if it is not given.\n"
     "\n"
-    "Prints `accepted` or `refused K` for each frame, and a line `answer A` with the\n"
-    "held answer at the start and whenever it changes, - where there is none.\n"
+    "Prints a line for each frame, in their order:\n"
+    "  accepted\n"
+    "  refused K line L path T Q..: what is wrong\n"
+    "  garbled line L column C: what is wrong\n"
+    "K is the refusal's number. The path is the frame's sender and used relays; it is\n"
+    "left out where the bytes have not a frame's length, mark and version. A garbled\n"
+    "line is not hex. A line `answer A` has the held answer, - where there is none,\n"
+    "at the start and whenever it changes.\n"
     "\n"
-    "Exit status: 0 if all was accepted, 1 if the settings or a frame were refused,\n"
-    "2 for wrong usage or a line that is not hex.\n";
+    "Exit status: 0 if all was accepted, 1 if the settings or a frame were refused or\n"
+    "a line was garbled, 2 for wrong usage or input that cannot be read.\n";
 
 /* A book in use. */
 struct card {
@@ -28,7 +34,6 @@ struct card {
     uint16_t exchange;
     struct book book;
     int32_t answer;     /* as last printed */
-    bool refused;       /* whether any frame was */
 };
 
 /* Not refused, as the book's lists have the right length. */
@@ -49,54 +54,26 @@ static void print_answer(struct card *card)
         printf("answer %" PRId32 "\n", card->answer);
 }
 
-static void enter_frame(struct card *card, const struct bytes *frame)
+/* Answers whether the frame was accepted. */
+static bool enter_frame(struct card *card, const struct bytes *frame, uint64_t line)
 {
-    uint8_t refused = book_enter_frame(&card->settings, &card->book, card->exchange, frame->at, frame->count);
+    uint8_t refused = book_enter_frame(&card->settings, &card->book, card->exchange, frame->at, bytes_kept(frame));
     if (refused != 0) {
-        card->refused = true;
-        print_refusal(refused);
-        return;
+        print_not_entered(refused, line, frame, &card->settings, card->exchange);
+        return false;
     }
     puts("accepted");
     if (held_answer(card) != card->answer)
         print_answer(card);
+    return true;
 }
 
-/* Whether a line holds a frame: not if it is blank, or a remark. */
-static bool holds_frame(const struct bytes *line)
+static bool take_line(void *with, const struct line *line)
 {
-    for (size_t i = 0; i < line->count; i++)
-        if (!is_blank((char)line->at[i]))
-            return line->at[i] != '#';
+    if (!line->garbled)
+        return enter_frame(with, &line->hex.bytes, line->number);
+    print_garbled(line);
     return false;
-}
-
-/* Enters the frame of one line, and writes out what was printed, for a reader
-   at the other end of a pipe. Answers an exit status. */
-static int take_line(struct card *card, const struct bytes *line, size_t number, struct bytes *frame)
-{
-    char where[32];
-    snprintf(where, sizeof where, "line %zu", number);
-    frame->count = 0;
-    if (!hex_read(where, (const char *)line->at, line->count, frame))
-        return NOT_DONE;
-    enter_frame(card, frame);
-    return fflush(stdout) == 0 ? DONE : NOT_DONE;
-}
-
-static int take_lines(struct card *card, FILE *file)
-{
-    struct bytes line = bytes_new();
-    struct bytes frame = bytes_new();
-    int status = DONE;
-    for (size_t number = 1; status == DONE && bytes_read_line(&line, file); number++)
-        if (holds_frame(&line))
-            status = take_line(card, &line, number, &frame);
-    if (ferror(file))
-        status = wrong_file("standard input");
-    bytes_free(&frame);
-    bytes_free(&line);
-    return status;
 }
 
 static bool take_settings(int count, char **arguments, struct card *card)
@@ -117,17 +94,17 @@ static int run(int count, char **arguments)
         return wrong_usage("card takes four or five arguments: N M T P [EXCHANGE]");
     struct card card;
     if (!take_settings(count, arguments, &card))
-        return NOT_DONE;
-    card.refused = false;
+        return WRONG_USAGE;
     uint8_t refused = book_open(&card.settings, &card.book);
     if (refused != 0) {
-        print_refusal(refused);
+        print_not_opened(refused, &card.settings);
         return REFUSED;
     }
     print_answer(&card);
     fflush(stdout);
-    int status = take_lines(&card, stdin);
-    return status == DONE && card.refused ? REFUSED : status;
+    return each_line(take_line, &card);
 }
 
-const struct command card_command = {"card", "enters frames in a card's book, and tells its held answer", help, run};
+const struct command card_command = {
+    "card", "enters frames in a card's book, and tells its held answer", help, NULL, run,
+};

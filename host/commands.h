@@ -2,11 +2,14 @@
 #ifndef COMMANDS_H
 #define COMMANDS_H
 
+#include "options.h"
+
 struct command {
     const char *name;
     const char *purpose;    /* one line, for the list of commands */
     const char *help;
-    int (*run)(int count, char **arguments);    /* without the command's name; answers an exit status */
+    const struct option *options;   /* null if it has none */
+    int (*run)(int count, char **arguments);    /* without the command's name and its options; answers an ending */
 };
 
 extern const struct command list_command;

@@ -7,8 +7,8 @@
 
 int wrong_usage(const char *message)
 {
-    fprintf(stderr, "bench: %s; see bench --help\n", message);
-    return NOT_DONE;
+    fprintf(stderr, "bench: %s\n", message);
+    return WRONG_USAGE;
 }
 
 int wrong_file(const char *name)

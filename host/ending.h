@@ -5,11 +5,12 @@
 /* Exit statuses. */
 enum {
     DONE = 0,
-    REFUSED = 1,     /* the library refused, or a soak failed */
-    NOT_DONE = 2     /* wrong usage, or a file that cannot be read or written */
+    REFUSED = 1,        /* the library refused, a line was garbled, or a soak failed */
+    NOT_DONE = 2,       /* a file that cannot be read or written */
+    WRONG_USAGE = 3     /* not an exit status yet: bench.c points to the command's help, and ends with NOT_DONE */
 };
 
-/* Says on standard error what is wrong with the usage; answers NOT_DONE. */
+/* Says on standard error what is wrong with the usage; answers WRONG_USAGE. */
 int wrong_usage(const char *message);
 
 /* Says on standard error, with the reason in errno, what failed; answers NOT_DONE. */

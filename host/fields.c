@@ -3,6 +3,12 @@
 
 #include "path.h"
 
+const char *const field_names[OMH_FIELDS] = {
+    [OMH_EXCHANGE] = "EXCHANGE", [OMH_SENDER] = "SENDER", [OMH_LEVEL] = "LEVEL",
+    [OMH_Q1] = "Q1", [OMH_Q2] = "Q2", [OMH_Q3] = "Q3",
+    [OMH_RECEIVER] = "RECEIVER", [OMH_WORD] = "WORD",
+};
+
 void fields_of(const struct settings *s, uint16_t exchange, size_t slot, int32_t word, int32_t fields[OMH_FIELDS])
 {
     struct path path = path_of(slot);

@@ -4,6 +4,9 @@
 
 #include "book.h"
 
+/* Their names, as `bench frame` takes and shows them. */
+extern const char *const field_names[OMH_FIELDS];
+
 /* The fields of the frame that brings p a word on the path of a slot. */
 void fields_of(const struct settings *s, uint16_t exchange, size_t slot, int32_t word, int32_t fields[OMH_FIELDS]);
 

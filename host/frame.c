@@ -1,49 +1,55 @@
-/* bench frame: a frame made of its fields, or shown as its fields. */
+/* bench frame: a frame made of its fields, or frames shown as their fields. */
 #include "commands.h"
 #include "ending.h"
 #include "fields.h"
-#include "hex.h"
+#include "frame_refusals.h"
+#include "lines.h"
 #include "number.h"
 #include "path.h"
-#include "refusals.h"
 
 #include <inttypes.h>
 #include <string.h>
 
 static const char help[] =
     "usage: bench frame make EXCHANGE SENDER LEVEL Q1 Q2 Q3 RECEIVER WORD\n"
-    "       bench frame show HEX..\n"
+    "       bench frame show [HEX..]\n"
     "\n"
     "make prints the 17 bytes of the frame with these fields, in hex. Q1, Q2 and Q3\n"
-    "are the relays, - where the level has none.\n"
+    "are the relays, - where the level has none. WORD is - for E.\n"
     "\n"
     "show prints the fields of the frame with these bytes, a line each. HEX is pairs\n"
-    "of hex digits, with or without blanks between the pairs.\n"
+    "of hex digits, with or without blanks between the pairs. Without HEX it shows\n"
+    "the frames of standard input, one to a line, and an empty line between them;\n"
+    "blank lines and lines that begin with # are passed over.\n"
     "\n"
-    "Exit status: 0 if made or shown, 1 if refused, 2 for wrong usage.\n";
-
-/* The fields, by their place in what omh_read_frame fills. */
-static const char *const names[OMH_FIELDS] = {
-    [OMH_EXCHANGE] = "EXCHANGE", [OMH_SENDER] = "SENDER", [OMH_LEVEL] = "LEVEL",
-    [OMH_Q1] = "Q1", [OMH_Q2] = "Q2", [OMH_Q3] = "Q3",
-    [OMH_RECEIVER] = "RECEIVER", [OMH_WORD] = "WORD",
-};
+    "A frame that is refused gives a line `refused K`, with its line, its path and\n"
+    "what is wrong; a line that is not hex gives `garbled line L column C` and what\n"
+    "is wrong.\n"
+    "\n"
+    "Exit status: 0 if made or shown, 1 if a frame was refused or a line garbled,\n"
+    "2 for wrong usage or input that cannot be read.\n";
 
 static bool is_relay(size_t field)
 {
     return field == OMH_Q1 || field == OMH_Q2 || field == OMH_Q3;
 }
 
+/* Whether - stands for a value: an unused relay, or the word E. */
+static bool is_none(size_t field, int32_t value)
+{
+    return is_relay(field) ? value == NO_RELAY : field == OMH_WORD && value == OMH_E;
+}
+
 static bool take_field(size_t field, const char *text, int32_t *value)
 {
     if (field == OMH_WORD)
-        return take_word(names[field], text, value);
+        return take_word(field_names[field], text, value);
     if (is_relay(field) && strcmp(text, "-") == 0) {
         *value = NO_RELAY;
         return true;
     }
     uint64_t number;
-    if (!take_natural(names[field], text, 0, field == OMH_EXCHANGE ? UINT16_MAX : UINT8_MAX, &number))
+    if (!take_natural(field_names[field], text, 0, field == OMH_EXCHANGE ? UINT16_MAX : UINT8_MAX, &number))
         return false;
     *value = (int32_t)number;
     return true;
@@ -56,46 +62,65 @@ static int make(int count, char **arguments)
     int32_t fields[OMH_FIELDS];
     for (size_t i = 0; i < OMH_FIELDS; i++)
         if (!take_field(i, arguments[i], &fields[i]))
-            return NOT_DONE;
+            return WRONG_USAGE;
     uint8_t frame[OMH_FRAME];
     uint8_t refused = fields_write(fields, frame, OMH_FRAME);
     if (refused != 0) {
-        print_refusal(refused);
+        print_not_made(refused, fields);
         return REFUSED;
     }
     hex_print(frame, OMH_FRAME);
     return DONE;
 }
 
-/* Prints a line to a field, as make takes them. */
-static int show_frame(const struct bytes *frame)
+/* Prints a line to a field, as make takes them, or the refusal. Answers whether it was shown. */
+static bool show_frame(const struct bytes *frame, uint64_t line)
 {
     int32_t fields[OMH_FIELDS];
-    uint8_t refused = omh_read_frame(frame->at, frame->count, fields);
+    uint8_t refused = omh_read_frame(frame->at, bytes_kept(frame), fields);
     if (refused != 0) {
-        print_refusal(refused);
-        return REFUSED;
+        print_not_read(refused, line, frame);
+        return false;
     }
     for (size_t i = 0; i < OMH_FIELDS; i++) {
-        if (is_relay(i) && fields[i] == NO_RELAY)
-            printf("%-8s  -\n", names[i]);
+        if (is_none(i, fields[i]))
+            printf("%-8s  -\n", field_names[i]);
         else
-            printf("%-8s  %" PRId32 "\n", names[i], fields[i]);
+            printf("%-8s  %" PRId32 "\n", field_names[i], fields[i]);
     }
-    return DONE;
+    return true;
+}
+
+/* Shows a line's frame; `with` is whether one was shown before. */
+static bool show_line(void *with, const struct line *line)
+{
+    bool *before = with;
+    if (*before)
+        putchar('\n');
+    *before = true;
+    if (!line->garbled)
+        return show_frame(&line->hex.bytes, line->number);
+    print_garbled(line);
+    return false;
 }
 
 static int show(int count, char **arguments)
 {
+    bool before = false;
     if (count == 0)
-        return wrong_usage("frame show takes a frame's bytes: HEX..");
-    struct bytes frame = bytes_new();
-    bool good = true;
-    for (int i = 0; good && i < count; i++)
-        good = hex_read("HEX", arguments[i], strlen(arguments[i]), &frame);
-    int status = good ? show_frame(&frame) : NOT_DONE;
-    bytes_free(&frame);
-    return status;
+        return each_line(show_line, &before);
+    struct hex hex = {0};
+    for (int i = 0; i < count; i++) {
+        bool good = true;
+        for (const char *c = arguments[i]; good && *c != '\0'; c++)
+            good = hex_take(&hex, *c);
+        if (good && hex_end(&hex))
+            continue;
+        fprintf(stderr, "bench: HEX, column %" PRIu64 ": ", hex.column);
+        hex_print_wrong(&hex, stderr);
+        return WRONG_USAGE;
+    }
+    return show_frame(&hex.bytes, 0) ? DONE : REFUSED;
 }
 
 static int run(int count, char **arguments)
@@ -107,4 +132,6 @@ static int run(int count, char **arguments)
     return wrong_usage("frame is followed by make or show");
 }
 
-const struct command frame_command = {"frame", "makes a frame of its fields, or shows a frame's fields", help, run};
+const struct command frame_command = {
+    "frame", "makes a frame of its fields, or shows a frame's fields", help, NULL, run,
+};

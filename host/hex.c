@@ -1,4 +1,4 @@
-/* Bytes as hex digits. */
+/* Bytes as pairs of hex digits. */
 #include "hex.h"
 
 #include <ctype.h>
@@ -21,41 +21,50 @@ bool is_blank(char c)
     return c == ' ' || c == '\t' || c == '\r';
 }
 
-static void say_no_digit(const char *where, size_t column, char c)
+/* Whether no byte is half read; where one is, its digit is what is wrong. */
+static bool is_between_bytes(struct hex *hex)
 {
-    unsigned byte = (unsigned char)c;
-    if (isprint((int)byte))
-        fprintf(stderr, "bench: %s, column %zu: '%c' is no hex digit\n", where, column, c);
-    else
-        fprintf(stderr, "bench: %s, column %zu: the byte %02X is no hex digit\n", where, column, byte);
+    hex->wrong = hex->half;
+    return hex->half == '\0';
 }
 
-bool hex_read(const char *where, const char *text, size_t length, struct bytes *bytes)
+bool hex_take(struct hex *hex, char c)
 {
-    size_t i = 0;
-    while (i < length) {
-        if (is_blank(text[i])) {
-            i++;
-            continue;
-        }
-        unsigned high = digit_of(text[i]);
-        if (high == NO_DIGIT) {
-            say_no_digit(where, i + 1, text[i]);
-            return false;
-        }
-        if (i + 1 == length || is_blank(text[i + 1])) {
-            fprintf(stderr, "bench: %s, column %zu: a byte has two hex digits, here is one\n", where, i + 1);
-            return false;
-        }
-        unsigned low = digit_of(text[i + 1]);
-        if (low == NO_DIGIT) {
-            say_no_digit(where, i + 2, text[i + 1]);
-            return false;
-        }
-        bytes_add(bytes, (uint8_t)(high << 4 | low));
-        i += 2;
+    if (is_blank(c) && !is_between_bytes(hex))
+        return false;
+    hex->column++;
+    if (is_blank(c))
+        return true;
+    if (digit_of(c) == NO_DIGIT) {
+        hex->wrong = c;
+        return false;
     }
+    if (hex->half == '\0') {
+        hex->half = c;
+        return true;
+    }
+    bytes_add(&hex->bytes, (uint8_t)(digit_of(hex->half) << 4 | digit_of(c)));
+    hex->half = '\0';
     return true;
+}
+
+bool hex_end(struct hex *hex)
+{
+    if (!is_between_bytes(hex))
+        return false;
+    hex->column = 0;
+    return true;
+}
+
+void hex_print_wrong(const struct hex *hex, FILE *file)
+{
+    unsigned byte = (unsigned char)hex->wrong;
+    if (digit_of(hex->wrong) != NO_DIGIT)
+        fputs("a byte has two hex digits, here is one\n", file);
+    else if (isprint((int)byte))
+        fprintf(file, "'%c' is no hex digit\n", hex->wrong);
+    else
+        fprintf(file, "the byte %02X is no hex digit\n", byte);
 }
 
 void hex_print(const uint8_t *bytes, size_t count)

@@ -2,10 +2,10 @@
 #include "bytes.h"
 #include "commands.h"
 #include "ending.h"
+#include "file_refusals.h"
+#include "notes.h"
 #include "omh.h"
-#include "refusals.h"
 
-#include <errno.h>
 #include <stdlib.h>
 #include <string.h>
 
@@ -15,7 +15,11 @@ static const char help[] =
     "Lists the outcome of the exchange in a listing file, - for standard input:\n"
     "a line for each card with its number, status and answer (- for none), then\n"
     "`bound held` or `bound not held`. A file that is not in order gives the line\n"
-    "`refused K`.\n"
+    "`refused K`, and standard error says which field is wrong. The file is read to\n"
+    "its end, however long, and only what can be accepted of it is kept.\n"
+    "\n"
+    "Exceptions whose word no card receives have no effect; a note on standard error\n"
+    "tells of each, counted from 1, and why.\n"
     "\n"
     "Exit status: 0 if listed, 1 if refused, 2 if the file cannot be read.\n";
 
@@ -24,21 +28,22 @@ static int list(const struct bytes *file)
 {
     static const char mark[] = "refused ";
     uint8_t text[OMH_TEXT + 1];
-    size_t length = omh_list(file->at, file->count, text);
+    size_t length = omh_list(file->at, bytes_kept(file), text);
     text[length] = '\0';
     fwrite(text, 1, length, stdout);
-    if (strncmp((const char *)text, mark, sizeof mark - 1) != 0)
+    fflush(stdout);
+    if (strncmp((const char *)text, mark, sizeof mark - 1) != 0) {
+        print_notes(file);
         return DONE;
-    explain_refusal((unsigned)strtoul((const char *)text + sizeof mark - 1, NULL, 10));
+    }
+    explain_refused_file((uint8_t)strtoul((const char *)text + sizeof mark - 1, NULL, 10), file);
     return REFUSED;
 }
 
 static int list_file(FILE *file, const char *name)
 {
-    struct bytes bytes = bytes_new();
-    int status = bytes_read_all(&bytes, file) ? list(&bytes) : wrong_file(name);
-    bytes_free(&bytes);
-    return status;
+    struct bytes bytes = {{0}, 0};
+    return bytes_read_all(&bytes, file) ? list(&bytes) : wrong_file(name);
 }
 
 static int run(int count, char **arguments)
@@ -55,4 +60,4 @@ static int run(int count, char **arguments)
     return status;
 }
 
-const struct command list_command = {"list", "lists the outcome of a listing file", help, run};
+const struct command list_command = {"list", "lists the outcome of a listing file", help, NULL, run};

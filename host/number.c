@@ -1,13 +1,16 @@
 /* Numbers as arguments. */
 #include "number.h"
 
+#include "omh.h"
+
 #include <inttypes.h>
 #include <stdio.h>
+#include <string.h>
 
 /* Reads decimal digits to the text's end; false if the number is over `most`. */
 static bool read_digits(const char *text, uint64_t most, uint64_t *number)
 {
-    if (text[0] == '\0' || (text[0] == '0' && text[1] != '\0'))
+    if (text[0] == '\0')
         return false;
     uint64_t sum = 0;
     for (const char *at = text; *at != '\0'; at++) {
@@ -34,11 +37,14 @@ bool take_word(const char *name, const char *text, int32_t *word)
 {
     uint64_t size;
     bool minus = text[0] == '-';
-    bool good = read_digits(text + minus, minus ? UINT64_C(1) << 31 : INT32_MAX, &size) && !(minus && size == 0);
-    if (good)
+    if (strcmp(text, "-") == 0)
+        *word = OMH_E;
+    else if (read_digits(text + minus, minus ? UINT64_C(1) << 31 : INT32_MAX, &size))
         *word = (int32_t)(minus ? -(int64_t)size : (int64_t)size);
-    else
-        fprintf(stderr, "bench: %s is a number from %" PRId32 " to %" PRId32 ", not '%s'\n",
+    else {
+        fprintf(stderr, "bench: %s is a number from %" PRId32 " to %" PRId32 " or - for E, not '%s'\n",
                 name, INT32_MIN, INT32_MAX, text);
-    return good;
+        return false;
+    }
+    return true;
 }

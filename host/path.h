@@ -1,4 +1,5 @@
-/* Paths and their slots, document 01's 'Settings and paths'; for the soak, which compares the library with it. */
+/* Paths and their slots, document 01's 'Settings and paths': to compare the
+   library with, and to say why a path is not live. */
 #ifndef PATH_H
 #define PATH_H
 

@@ -1,12 +1,10 @@
 /* bench soak: the library tried with random exchanges. */
 #include "commands.h"
 #include "ending.h"
-#include "number.h"
 #include "progress.h"
 #include "trying.h"
 
 #include <inttypes.h>
-#include <string.h>
 #include <time.h>
 
 static const char help[] =
@@ -18,17 +16,28 @@ static const char help[] =
     "not, with second words and refused ones among them.\n"
     "\n"
     "The seed S is printed; if it is not given it comes from the clock. Exchanges are\n"
-    "numbered from 1, and --first F begins with exchange F of the seed. --progress\n"
-    "shows on standard error, about once a second, how far it is; on a terminal that\n"
-    "is shown anyway.\n"
+    "numbered from 1 to 18446744073709551615, and --first F begins with exchange F of\n"
+    "the seed. --progress shows on standard error, about once a second, how far it\n"
+    "is; on a terminal that is shown anyway.\n"
     "\n"
     "Exit status: 0 if all was right, 1 on the first failure, 2 for wrong usage.\n";
 
 struct soak {
     uint64_t seed, first, count;
+    bool seeded;            /* the seed is given */
     bool progress;          /* wanted */
     uint64_t exchanges;     /* done */
     uint64_t within;        /* of these, within the bound */
+};
+
+static struct soak asked = {.first = 1, .count = 10000};
+
+static const struct option options[] = {
+    {"--seed", &asked.seed, 0, &asked.seeded},
+    {"--count", &asked.count, 1, NULL},
+    {"--first", &asked.first, 1, NULL},
+    {"--progress", NULL, 0, &asked.progress},
+    {NULL, NULL, 0, NULL},
 };
 
 static uint64_t seed_of_clock(void)
@@ -38,41 +47,15 @@ static uint64_t seed_of_clock(void)
     return (uint64_t)now.tv_sec * UINT64_C(1000000000) + (uint64_t)now.tv_nsec;
 }
 
-/* The place for an option's number, and the least that it may be; null if there is no such option. */
-static uint64_t *option_place(struct soak *soak, const char *option, uint64_t *least)
+/* Whether there are so many exchanges from the first on; if not, says so. */
+static bool has_exchanges(const struct soak *soak)
 {
-    *least = 1;
-    if (strcmp(option, "--count") == 0)
-        return &soak->count;
-    if (strcmp(option, "--first") == 0)
-        return &soak->first;
-    *least = 0;
-    return strcmp(option, "--seed") == 0 ? &soak->seed : NULL;
-}
-
-/* False after a message. */
-static bool take_options(int count, char **arguments, struct soak *soak)
-{
-    for (int i = 0; i < count; i++) {
-        const char *option = arguments[i];
-        if (strcmp(option, "--progress") == 0) {
-            soak->progress = true;
-            continue;
-        }
-        uint64_t least;
-        uint64_t *place = option_place(soak, option, &least);
-        if (place == NULL) {
-            fprintf(stderr, "bench: soak has no option '%s'; see bench soak --help\n", option);
-            return false;
-        }
-        if (++i == count) {
-            fprintf(stderr, "bench: %s takes a number; see bench soak --help\n", option);
-            return false;
-        }
-        if (!take_natural(option, arguments[i], least, UINT64_MAX, place))
-            return false;
-    }
-    return true;
+    uint64_t left = UINT64_MAX - soak->first + 1;
+    if (soak->count <= left)
+        return true;
+    fprintf(stderr, "bench: exchanges go up to %" PRIu64 ": with --first %" PRIu64 " --count is at most %" PRIu64
+            ", not %" PRIu64 "\n", UINT64_MAX, soak->first, left, soak->count);
+    return false;
 }
 
 /* The last exchange failed: what it was, and how to repeat it. */
@@ -108,9 +91,14 @@ static void print_count(const char *name, uint64_t count)
 
 static int run(int count, char **arguments)
 {
-    struct soak soak = {seed_of_clock(), 1, 10000, false, 0, 0};
-    if (!take_options(count, arguments, &soak))
-        return NOT_DONE;
+    (void)arguments;
+    if (count > 0)
+        return wrong_usage("soak takes options alone");
+    struct soak soak = asked;
+    if (!has_exchanges(&soak))
+        return WRONG_USAGE;
+    if (!soak.seeded)
+        soak.seed = seed_of_clock();
     printf("seed %" PRIu64 "\n", soak.seed);
     fflush(stdout);
     static struct trial trial;
@@ -123,4 +111,4 @@ static int run(int count, char **arguments)
     return trial.failure == NULL ? DONE : REFUSED;
 }
 
-const struct command soak_command = {"soak", "tries the library with random exchanges", help, run};
+const struct command soak_command = {"soak", "tries the library with random exchanges", help, options, run};

@@ -14,6 +14,7 @@ agree=$'answer -\naccepted\nanswer 30\naccepted\nanswer -\naccepted\nanswer 10\n
 gives 'the sender tells 10, 20, 30' 0 "$differ" "$bench" card 4 1 0 3 <"$scratch/differ"
 says 'the sender tells 10, 20, 30' ''
 gives 'the sender tells 10, 10, 30' 0 "$agree" "$bench" card 4 1 0 3 0 <"$scratch/agree"
+gives 'the frames that README shows' 0 "$agree" "$bench" card 4 1 0 3 <host/tests/agreeing.frames
 gives 'frames in a slow pipe' 0 "$agree" "$bench" card 4 1 0 3 < <(slowly <"$scratch/agree")
 gives 'no frame' 0 $'answer -\n' "$bench" card 4 1 0 3 </dev/null
 gives 'no LF at the end' 0 $'answer -\naccepted\nanswer 30\n' "$bench" card 4 1 0 3 < <(printf '%s' "$(frame 0 - - - 30)")
@@ -26,76 +27,120 @@ gives 'words of any kind' 0 \
     $'answer -\naccepted\naccepted\nanswer 999999999\naccepted\nanswer -\naccepted\nanswer -999999999\n' \
     "$bench" card 4 0 0 3 < <(for word in 1000000001 999999999 -1000000000 -999999999; do frame 0 - - - "$word"; done)
 
-# Each refusal that a frame can meet, and the session goes on.
-numbers=(9 10 11 14 12 13 15 15 8 8)
-gives 'frames that are refused' 1 \
-    $'answer -\n'"$(printf 'refused %d\n' "${numbers[@]}")"$'\naccepted\nanswer 30\n' \
-    "$bench" card 4 1 0 3 65535 <<'FRAMES'
+# Each refusal that a frame can meet, with the field that is wrong, and lines that are not hex: the session goes on.
+gives 'frames that are refused' 1 "answer -
+refused 9 line 1: the frame's length is 1, not 17 bytes
+refused 10 line 2: the mark is 4F4D58, not 4F4D48
+refused 11 line 3: the version is 2, not 1
+refused 14 line 4 path 0: Q1 is 0, not 255, and level 0 does not use it
+refused 12 line 5 path 0: EXCHANGE is 32768, old by 32767: the current is 65535
+refused 13 line 6 path 0: EXCHANGE is 32767, ahead by 32768: the current is 65535
+refused 13 line 7 path 0 1: EXCHANGE is 0, ahead by 1: the current is 65535
+refused 15 line 8 path 1: SENDER is 1, the book's is 0
+refused 15 line 9 path 0: RECEIVER is 2, the book's is 3
+garbled line 10 column 6: 'n' is no hex digit
+garbled line 11 column 5: a byte has two hex digits, here is one
+garbled line 13 column 1: a byte has two hex digits, here is one
+refused 8 line 14 path 0 2 2 1: level 3 is over M, which is 2
+refused 8 line 15 path 0 1 4: card 4 relays, and the last card is 3
+refused 8 line 16 path 0 0: card 0 relays, and is the sender
+refused 8 line 17 path 0 3: card 3 relays, and is the receiver
+refused 8 line 18 path 0 2 2: card 2 relays twice
+accepted
+answer 30
+" "$bench" card 4 2 0 3 65535 <<'FRAMES'
 4F
 4F4D58 0001 FFFF 00 00 FFFFFF 03 0000001E
 4F4D48 0002 FFFF 00 00 FFFFFF 03 0000001E
 4F4D48 0001 FFFF 00 00 00FFFF 03 0000001E
-4F4D48 0001 FFFE 00 00 FFFFFF 03 0000001E
-4F4D48 0001 0000 00 00 FFFFFF 03 0000001E
-4F4D48 0001 FFFF 01 00 FFFFFF 03 0000001E
+4F4D48 0001 8000 00 00 FFFFFF 03 0000001E
+4F4D48 0001 7FFF 00 00 FFFFFF 03 0000001E
+4F4D48 0001 0000 00 01 01FFFF 03 0000001E
+4F4D48 0001 FFFF 01 00 FFFFFF 02 0000001E
 4F4D48 0001 FFFF 00 00 FFFFFF 02 0000001E
+4F4D no
+4F4D4
+# passed over
+4 F4D
+4F4D48 0001 FFFF 00 03 020201 03 0000001E
+4F4D48 0001 FFFF 00 02 0104FF 03 0000001E
+4F4D48 0001 FFFF 00 01 00FFFF 03 0000001E
 4F4D48 0001 FFFF 00 01 03FFFF 03 0000001E
-4F4D48 0001 FFFF 00 02 0102FF 03 0000001E
+4F4D48 0001 FFFF 00 02 0202FF 03 0000001E
 4F4D48 0001 FFFF 00 00 FFFFFF 03 0000001E
 FRAMES
-says 'frames that are refused' "$(for number in "${numbers[@]}"; do echo "bench: refused $number: ${meanings[number]}"; done)"
+says 'frames that are refused' ''
+gives 'the sender receives no relays' 1 $'answer -\nrefused 8 line 1 path 3 1: card 3 is the sender, and receives no relays\n' \
+    "$bench" card 4 1 3 3 <<<'4F4D48 0001 0000 03 01 01FFFF 03 0000001E'
+gives 'a garbled line alone, without its LF' 1 $'answer -\ngarbled line 1 column 3: the byte 00 is no hex digit\n' \
+    "$bench" card 4 1 0 3 < <(printf '4F\0')
 
 # What a book of n 4, m 1, t 0, p 3 at exchange 257 makes of 17 bytes, written here again.
-entering() { # BYTE.. as numbers
+entering() { # LINE BYTE.. as numbers
     local fields age exchange sender level q1 receiver
-    fields=$(reading "$@")
-    [[ $fields == EXCHANGE* ]] || { echo "refused $fields"; return; }
+    fields=$(reading "${@:2}")
+    [[ $fields == EXCHANGE* ]] || { refusal "$fields" "$@"; return; }
     read -r _ exchange _ sender _ level _ q1 _ _ _ _ _ receiver _ <<<"${fields//$'\n'/ }"
     age=$(((257 - exchange) & 65535))
     if ((age > 0)); then
-        echo "refused $((age < 32768 ? 12 : 13))"
+        refusal $((age < 32768 ? 12 : 13)) "$@"
     elif ((sender != 0 || receiver != 3)); then
-        echo 'refused 15'
+        refusal 15 "$@"
     elif ((level > 1 || (level == 1 && (q1 == 0 || q1 >= 3)))); then
-        echo 'refused 8'
+        refusal 8 "$@"
     else
         echo accepted
     fi
 }
 
-due='' got=''
+due='' line=0
 while read -r -a numbers; do
-    due+=$(entering "${numbers[@]}")$'\n'
+    line=$((line + 1))
+    due+=$(entering "$line" "${numbers[@]}")$'\n'
     printf '%02X' "${numbers[@]}"
     echo
 done < <(damaged 4F4D4800010101000102FFFF0300000005) >"$scratch/damaged"
-while IFS= read -r line; do
-    [[ $line == answer* ]] || got+=$line$'\n'
-done < <("$bench" card 4 1 0 3 257 <"$scratch/damaged" 2>/dev/null)
 match 'damaged frames, some of which are accepted' *accepted*$'\n' "$due"
-equal 'damaged frames' "$due" "$got"
+equal 'damaged frames' "${due}status 1" \
+    "$("$bench" card 4 1 0 3 257 <"$scratch/damaged" | sed '/^answer/d; s/: .*//'; echo "status ${PIPESTATUS[0]}")"
 
-refused 'no card' 1 '' "$bench" card 0 0 0 0 </dev/null
-refused 'eleven cards' 1 '' "$bench" card 11 0 0 0 </dev/null
-refused 'four rounds' 2 '' "$bench" card 10 4 0 0 </dev/null
-refused 'as many rounds as cards' 2 '' "$bench" card 3 3 0 0 </dev/null
-refused 'a sender that is not there' 3 '' "$bench" card 4 1 4 0 </dev/null
-refused 'an own card that is not there' 4 '' "$bench" card 4 1 0 18446744073709551615 </dev/null
+refused 'no card' '1: N is 0, not 1 to 10' '' "$bench" card 0 0 0 0 </dev/null
+refused 'eleven cards' '1: N is 11, not 1 to 10' '' "$bench" card 11 0 0 0 </dev/null
+refused 'four rounds' '2: M is 4, over 3' '' "$bench" card 10 4 0 0 </dev/null
+refused 'as many rounds as cards' '2: M is 3, not below N, which is 3' '' "$bench" card 3 3 0 0 </dev/null
+refused 'a sender that is not there' '3: T is 4, not below N, which is 4' '' "$bench" card 4 1 4 0 </dev/null
+refused 'an own card that is not there' '4: P is 18446744073709551615, not below N, which is 4' '' \
+    "$bench" card 4 1 0 18446744073709551615 </dev/null
 
-wrong 'card with three numbers' 'card takes four or five arguments: N M T P \[EXCHANGE\]; see bench --help' "$bench" card 4 1 0
-wrong 'card with six numbers' 'card takes four or five arguments: *' "$bench" card 4 1 0 3 0 0
-wrong 'N is no number' "N is a number from 0 to *, not 'four'" "$bench" card four 1 0 3
-wrong 'M is negative' "M is a number from 0 to *, not '-1'" "$bench" card 4 -1 0 3
-wrong 'T is too large' "T is a number from 0 to *, not '18446744073709551616'" "$bench" card 4 1 18446744073709551616 3
-wrong 'P is empty' "P is a number from 0 to *, not ''" "$bench" card 4 1 0 ''
-wrong 'EXCHANGE is too large' "EXCHANGE is a number from 0 to 65535, not '65536'" "$bench" card 4 1 0 3 65536
+misused 'card with three numbers' 'card takes four or five arguments: N M T P \[EXCHANGE\]' "$bench" card 4 1 0
+misused 'card with six numbers' 'card takes four or five arguments: *' "$bench" card 4 1 0 3 0 0
+misused 'N is no number' "N is a number from 0 to *, not 'four'" "$bench" card four 1 0 3
+misused 'M is negative' "M is a number from 0 to *, not '-1'" "$bench" card 4 -1 0 3
+misused 'T is too large' "T is a number from 0 to *, not '18446744073709551616'" "$bench" card 4 1 18446744073709551616 3
+misused 'P is empty' "P is a number from 0 to *, not ''" "$bench" card 4 1 0 ''
+misused 'an option of a card' "card has no option '--exchange'" "$bench" card 4 1 0 3 --exchange 5
+gives 'leading zeros' 0 $'answer -\n' "$bench" card 04 001 00 03 00000000000000000000007 </dev/null
+misused 'EXCHANGE is too large' "EXCHANGE is a number from 0 to 65535, not '65536'" "$bench" card 4 1 0 3 65536
 
-gives 'a line that is not hex ends the session' 2 $'answer -\naccepted\nanswer 30\n' \
-    "$bench" card 4 1 0 3 < <(echo '#'; frame 0 - - - 30; echo '4F4D no'; frame 0 - - - 31)
-says 'a line that is not hex ends the session' "bench: line 3, column 6: 'n' is no hex digit"
-gives 'a NUL' 2 $'answer -\n' "$bench" card 4 1 0 3 < <(printf '4F\0')
-says 'a NUL' 'bench: line 1, column 3: the byte 00 is no hex digit'
-refused 'a line of a million digits' 9 $'answer -\n' "$bench" card 4 1 0 3 < <(printf '%01000000d\n' 0)
+# A line of any length, in the memory that a short one takes: of digits, of blanks around a frame, of no digits, a remark.
+long() { # BYTE: ten million of it
+    head -c 10000000 /dev/zero | tr '\0' "$1"
+}
+gives 'lines of ten million bytes' 1 "answer -
+refused 9 line 1: the frame's length is 5000000, not 17 bytes
+accepted
+answer 30
+garbled line 3 column 10000001: 'x' is no hex digit
+garbled line 5 column 1: 'x' is no hex digit
+accepted
+answer 31
+" small card 4 1 0 3 < <(
+    long 0; echo
+    long ' '; frame 0 - - - 30
+    long ' '; echo x
+    echo -n '#'; long '#'; echo
+    long x; echo
+    frame 0 - - - 31)
 gives 'closed standard input' 2 $'answer -\n' bash -c '"$0" card 4 1 0 3 <&-' "$bench"
 says 'closed standard input' 'bench: standard input: Bad file descriptor'
 wrong 'a full disk' 'standard output: No space left on device' bash -c '"$0" card 4 1 0 3 >/dev/full' "$bench" <"$scratch/agree"

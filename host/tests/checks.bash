@@ -35,7 +35,15 @@ says() { # NAME PATTERN
     match "$1, standard error" "$2" "$(<"$scratch/said")"
 }
 
-# Two tests: wrong usage, or a file that cannot be read or written.
+# Two tests: wrong usage of a command, whose help is then named.
+misused() { # NAME PATTERN BENCH COMMAND ARGUMENT..
+    local name=$1 pattern=$2 command=$4
+    shift 2
+    gives "$name" 2 '' "$@"
+    says "$name" "bench: $pattern"$'\n'"bench: try 'bench $command --help'"
+}
+
+# Two tests: a file that cannot be read or written.
 wrong() { # NAME PATTERN COMMAND..
     local name=$1 pattern=$2
     shift 2
@@ -43,33 +51,26 @@ wrong() { # NAME PATTERN COMMAND..
     says "$name" "bench: $pattern"
 }
 
-# Two tests: a refusal, with what is printed before it.
-refused() { # NAME NUMBER OUTPUT COMMAND..
-    local name=$1 number=$2 output=$3
+# Two tests: a refusal of settings or a frame, with what is printed before it; all of it on standard output.
+refused() { # NAME LINE OUTPUT COMMAND..
+    local name=$1 line=$2 output=$3
     shift 3
-    gives "$name" 1 "${output}refused $number"$'\n' "$@"
-    says "$name" "bench: refused $number: ${meanings[number]}"
+    gives "$name" 1 "${output}refused $line"$'\n' "$@"
+    says "$name" ''
 }
 
-# Document 01's table of refusals.
-meanings=(
-    [1]='n is not 1 to 10'
-    [2]='m is over 3 or not below n'
-    [3]='t is not below n'
-    [4]='p is not below n'
-    [5]="a lent list or the writer's buffer has another length"
-    [6]='x is not ordinary'
-    [7]='a status byte is over 3, or not 0 from card n up'
-    [8]='the path or slot is not live for p'
-    [9]="a frame is not 17 bytes; a listing file's length is wrong"
-    [10]='wrong mark'
-    [11]='version is not 1'
-    [12]='frame is old'
-    [13]='frame is ahead'
-    [14]='frame or record is not well formed'
-    [15]='frame has another sender or receiver than the book'
-    [16]='listing file: over 64 exceptions, a slot over 1,110 or a receiver over 9'
-)
+# Two tests: a listing file is refused, and standard error says why.
+not_listed() { # NAME NUMBER REASON COMMAND..
+    local name=$1 number=$2 reason=$3
+    shift 3
+    gives "$name" 1 "refused $number"$'\n' "$@"
+    says "$name" "bench: refused $number: $reason"
+}
+
+# Runs the bench with 16 MB of memory; the sanitizers' build would take more.
+small() { # ARGUMENT..
+    bash -c 'ulimit -v 16000 && exec "$@"' small "$build/bench" "$@"
+}
 
 # Writes the bytes that are given as hex, blanks between them or not.
 bytes() { # HEX..

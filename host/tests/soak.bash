@@ -40,14 +40,26 @@ for i in 0 1 2 3; do
     equal 'a soak in two parts' "${whole[i]}" $((one[i] + two[i]))
 done
 
-wrong 'an unknown option' "soak has no option '--cuont'; see bench soak --help" "$bench" soak --cuont 5
-wrong 'an option without its number' '--seed takes a number; see bench soak --help' "$bench" soak --count 5 --seed
+equal 'options with =' "$first" "$(soak --count=50 --seed=2)"
+equal 'leading zeros, and an end of options' "$first" "$(soak --count 050 --seed 02 --)"
+misused 'an unknown option' "soak has no option '--cuont'" "$bench" soak --cuont 5
+misused 'an unknown option with =' "soak has no option '--coun=5'" "$bench" soak --coun=5
+misused 'an option without its number' '--seed takes a number' "$bench" soak --count 5 --seed
+misused 'an option with a number that it does not take' '--progress takes no number' "$bench" soak --progress=1
+misused 'an argument' 'soak takes options alone' "$bench" soak 5
+misused 'an argument after --' 'soak takes options alone' "$bench" soak -- --seed
 most=18446744073709551615
-wrong 'a seed that is no number' "--seed is a number from 0 to $most, not '0x1'" "$bench" soak --seed 0x1
-wrong 'a seed that is too large' "--seed is a number from 0 to $most, not '18446744073709551616'" \
+misused 'a seed that is no number' "--seed is a number from 0 to $most, not '0x1'" "$bench" soak --seed 0x1
+misused 'a seed of no digits' "--seed is a number from 0 to $most, not ''" "$bench" soak --seed=
+misused 'a seed that is too large' "--seed is a number from 0 to $most, not '18446744073709551616'" \
     "$bench" soak --seed 18446744073709551616
-wrong 'a count of 0' "--count is a number from 1 to $most, not '0'" "$bench" soak --count 0
-wrong 'a first of 0' "--first is a number from 1 to $most, not '0'" "$bench" soak --first 0
+misused 'a count of 0' "--count is a number from 1 to $most, not '0'" "$bench" soak --count 0
+misused 'a count below 0' "--count is a number from 1 to $most, not '-1'" "$bench" soak --count -1
+misused 'a first of 0' "--first is a number from 1 to $most, not '0'" "$bench" soak --first 0
+misused 'a count past the last exchange' \
+    "exchanges go up to $most: with --first ${most%5}4 --count is at most 2, not 3" "$bench" soak --first ${most%5}4 --count 3
+misused 'the usual count past the last exchange' '* --count is at most 1, not 10000' "$bench" soak --first $most
+match 'the last two exchanges' "$(summary 1 2)" "$(soak --seed 1 --first ${most%5}4 --count 2)"
 match 'the largest numbers' "$(summary $most 1)" "$(soak --seed $most --first $most --count 1)"
 
 # A soak finds each impostor, and finds it again when its exchange is repeated.
