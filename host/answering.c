@@ -37,13 +37,13 @@ static int32_t common_answer(const struct trial *trial)
 {
     const struct exchange *e = &trial->exchange;
     switch (e->statuses[e->t]) {
-    case GOOD:
+    case OMH_GOOD:
         return e->x;
-    case SYMMETRIC:
+    case OMH_SYMMETRIC:
         return is_ordinary(e->table[0]) ? e->table[0] : OMH_E;
-    case ARBITRARY:
+    case OMH_ARBITRARY:
         for (size_t card = 0; card < e->n; card++)
-            if (e->statuses[card] == GOOD)
+            if (e->statuses[card] == OMH_GOOD)
                 return trial->answers[card];
     }
     return OMH_E;
@@ -54,7 +54,7 @@ static bool good_cards_agree(struct trial *trial)
     const struct exchange *e = &trial->exchange;
     int32_t due = common_answer(trial);
     for (size_t card = 0; card < e->n; card++)
-        if (e->statuses[card] == GOOD
+        if (e->statuses[card] == OMH_GOOD
             && !is_due(trial, "a good card's answer within the bound", trial->answers[card], due))
             return false;
     return true;

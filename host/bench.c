@@ -28,7 +28,7 @@ static void print_help(void)
          "Options begin with --, and -- alone ends them.\n"
          "\n"
          "What the library refuses is printed as a line that begins with `refused K`, K\n"
-         "being the number in document 01's table, and says which field is wrong; of a\n"
+         "being the number in docs/FORMATS.md, and says which field is wrong; of a\n"
          "listing file standard error says it.\n"
          "\n"
          "Exit status: 0 if all was done; 1 for a refusal, a garbled line or a failed\n"

@@ -15,10 +15,10 @@ bool is_ordinary(int32_t word)
 
 bool exchange_within_bound(const struct exchange *e)
 {
-    size_t cards[] = {[GOOD] = 0, [ARBITRARY] = 0, [SYMMETRIC] = 0, [MANIFEST] = 0};
+    size_t cards[] = {[OMH_GOOD] = 0, [OMH_ARBITRARY] = 0, [OMH_SYMMETRIC] = 0, [OMH_MANIFEST] = 0};
     for (size_t card = 0; card < e->n; card++)
         cards[e->statuses[card]]++;
-    return e->n > 2 * cards[ARBITRARY] + 2 * cards[SYMMETRIC] + cards[MANIFEST] + e->m && cards[ARBITRARY] <= e->m;
+    return e->n > 2 * cards[OMH_ARBITRARY] + 2 * cards[OMH_SYMMETRIC] + cards[OMH_MANIFEST] + e->m && cards[OMH_ARBITRARY] <= e->m;
 }
 
 static int32_t draw_ordinary(struct random *random)
@@ -70,12 +70,12 @@ static void draw_table(struct exchange *e, struct random *random)
 /* Three times in four no card is made faulty that would break the bound. */
 static void draw_statuses(struct exchange *e, struct random *random)
 {
-    memset(e->statuses, GOOD, sizeof e->statuses);
+    memset(e->statuses, OMH_GOOD, sizeof e->statuses);
     bool within = !random_once_in(random, 4);
     for (size_t tries = random_below(random, e->n + 1); tries > 0; tries--) {
         size_t card = random_below(random, e->n);
         uint8_t before = e->statuses[card];
-        e->statuses[card] = (uint8_t)(1 + random_below(random, MANIFEST));
+        e->statuses[card] = (uint8_t)(1 + random_below(random, OMH_MANIFEST));
         if (within && !exchange_within_bound(e))
             e->statuses[card] = before;
     }

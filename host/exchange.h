@@ -7,8 +7,6 @@
 
 #include <stdio.h>
 
-enum status { GOOD = 0, ARBITRARY = 1, SYMMETRIC = 2, MANIFEST = 3 };
-
 struct exchange {
     size_t n, m, t;
     int32_t x;

@@ -21,13 +21,13 @@ static void say_size(const struct bytes *file)
 static void say_status(const struct bytes *file)
 {
     size_t n = settings_in(file, 0).n, card = 0;
-    while (card < n && status_in(file, card) <= MANIFEST)
+    while (card < n && status_in(file, card) <= OMH_MANIFEST)
         card++;
     while (card >= n && card < OMH_CARDS && status_in(file, card) == 0)
         card++;
     fprintf(stderr, "card %zu has status %u, ", card, (unsigned)status_in(file, card));
     if (card < n)
-        fprintf(stderr, "over %d", MANIFEST);
+        fprintf(stderr, "over %d", OMH_MANIFEST);
     else
         fprintf(stderr, "not 0, and the last card is %zu", n - 1);
 }

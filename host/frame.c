@@ -37,7 +37,7 @@ static bool is_relay(size_t field)
 /* Whether - stands for a value: an unused relay, or the word E. */
 static bool is_none(size_t field, int32_t value)
 {
-    return is_relay(field) ? value == NO_RELAY : field == OMH_WORD && value == OMH_E;
+    return is_relay(field) ? value == OMH_NO_RELAY : field == OMH_WORD && value == OMH_E;
 }
 
 static bool take_field(size_t field, const char *text, int32_t *value)
@@ -45,7 +45,7 @@ static bool take_field(size_t field, const char *text, int32_t *value)
     if (field == OMH_WORD)
         return take_word(field_names[field], text, value);
     if (is_relay(field) && strcmp(text, "-") == 0) {
-        *value = NO_RELAY;
+        *value = OMH_NO_RELAY;
         return true;
     }
     uint64_t number;

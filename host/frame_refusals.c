@@ -56,12 +56,12 @@ static bool print_relay_form_reason(const int32_t fields[OMH_FIELDS], int32_t i)
     size_t field = (size_t)(OMH_Q1 + i);
     int32_t level = fields[OMH_LEVEL], relay = fields[field];
     bool used = i < level;
-    if (used ? relay <= LAST_CARD : relay == NO_RELAY)
+    if (used ? relay <= LAST_CARD : relay == OMH_NO_RELAY)
         return false;
     if (used)
         print_over(field, relay, LAST_CARD);
     else
-        printf("%s is %" PRId32 ", not %d", field_names[field], relay, NO_RELAY);
+        printf("%s is %" PRId32 ", not %d", field_names[field], relay, OMH_NO_RELAY);
     printf(", and level %" PRId32 " %s it", level, used ? "uses" : "does not use");
     return true;
 }

@@ -28,9 +28,9 @@ static bool is_received(const struct bytes *file, const struct exception *e)
 {
     struct settings receiver = settings_in(file, e->receiver);
     switch (status_in(file, sending(file, e->slot))) {
-    case ARBITRARY:
+    case OMH_ARBITRARY:
         return e->receiver < receiver.n && is_live(&receiver, e->slot);
-    case SYMMETRIC:
+    case OMH_SYMMETRIC:
         return e->receiver == 0 && is_live_for_any(file, e->slot);
     default:
         return false;
@@ -47,11 +47,11 @@ static void say_not_received(const struct bytes *file, const struct exception *e
     uint8_t status = status_in(file, card);
     if (!is_live(&nobody, e->slot))
         print_path_reason(&nobody, &path, stderr);
-    else if (status == GOOD || status == MANIFEST)
-        fprintf(stderr, "card %zu sends on this path, and is %s", card, status == GOOD ? "good" : "manifest");
-    else if (status == SYMMETRIC && e->receiver > 0)
+    else if (status == OMH_GOOD || status == OMH_MANIFEST)
+        fprintf(stderr, "card %zu sends on this path, and is %s", card, status == OMH_GOOD ? "good" : "manifest");
+    else if (status == OMH_SYMMETRIC && e->receiver > 0)
         fprintf(stderr, "card %zu sends on this path, and is symmetric: all receive the word for receiver 0", card);
-    else if (status == SYMMETRIC)
+    else if (status == OMH_SYMMETRIC)
         fputs("no card is left to receive on this path", stderr);
     else if (e->receiver >= receiver.n)
         fprintf(stderr, "the receiver is not there: the last card is %zu", receiver.n - 1);

@@ -12,7 +12,7 @@
  * p; where p is t only slot 0 is live.
  *
  * A list is a pointer and its length, counted in elements; a place for one
- * word, the eight fields and the text are pointers alone. No pointer is null,
+ * word or slot, the eight fields and the text are pointers alone. None is null,
  * each has the alignment of its C type and needs no other, the memory behind
  * it has its length, and nothing that a call may write overlaps anything else
  * of the call or is used by another thread meanwhile. The stack has the

@@ -3,7 +3,7 @@
 
 struct path path_of(size_t slot)
 {
-    struct path path = {0, {NO_RELAY, NO_RELAY, NO_RELAY}};
+    struct path path = {0, {OMH_NO_RELAY, OMH_NO_RELAY, OMH_NO_RELAY}};
     size_t first = 0;       /* the level's first slot */
     size_t slots = 1;       /* and how many it has */
     while (slot >= first + slots) {

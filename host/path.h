@@ -7,11 +7,9 @@
 
 #include <stdbool.h>
 
-enum { NO_RELAY = 255 };
-
 struct path {
     uint8_t level;
-    uint8_t relays[OMH_ROUNDS];     /* NO_RELAY where the level has none */
+    uint8_t relays[OMH_ROUNDS];     /* OMH_NO_RELAY where the level has none */
 };
 
 /* The path of a slot, which is below OMH_SLOTS. */

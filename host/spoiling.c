@@ -64,7 +64,7 @@ static void spoil_version(struct attempt *a, struct random *random)
 /* 10 to 254 for sender, level, a relay or receiver: no card, no level, no unused relay. */
 static void spoil_form(struct attempt *a, struct random *random)
 {
-    a->frame[7 + random_below(random, 6)] = (uint8_t)(OMH_CARDS + random_below(random, NO_RELAY - OMH_CARDS));
+    a->frame[7 + random_below(random, 6)] = (uint8_t)(OMH_CARDS + random_below(random, OMH_NO_RELAY - OMH_CARDS));
 }
 
 /* Gives the frame this age. */

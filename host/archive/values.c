@@ -86,7 +86,7 @@ struct settings settings_draw(void)
 
 struct path path_draw(const struct settings *s)
 {
-    struct path path = {(uint8_t)(s->p == s->t ? 0 : below(s->m + 1)), {NO_RELAY, NO_RELAY, NO_RELAY}};
+    struct path path = {(uint8_t)(s->p == s->t ? 0 : below(s->m + 1)), {OMH_NO_RELAY, OMH_NO_RELAY, OMH_NO_RELAY}};
     for (size_t i = 0; i < path.level; i++) {
         size_t relay;
         do
