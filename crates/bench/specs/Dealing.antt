@@ -10,6 +10,7 @@ use Rattle.words.specs.Rule.{Rule}
 use Rattle.paths.specs.Slots.{below}
 use Rattle.paths.specs.Walk.{may, room}
 use Rattle.vote.specs.Vote.{decided}
+use Rattle.exchange.specs.Asked.{tableWords}
 use Rattle.exchange.specs.Sending.{sentTo}
 
 -- the vote of card p at slot k of level d, on which a card of this status byte sends the word if it is good, with r rounds left
@@ -24,9 +25,10 @@ abbrev pub dealtVotes : Rule → List ℕ → List ℤ → ℕ → List Bool →
 dealtVotes R statuses words p members r d k status word c =
     over (may members) (λ q. dealtVote R statuses words p (set members q false) r (d + 1) (below k q) (getD statuses q 0) (R .wrap (R .read d (sentTo status word words k q)))) c 0
 
--- what such a vote is asked: ten status bytes, a card, all ten cards, at most three relays in all, and a slot with room for those left
-pub record Dealing (statuses : List ℕ) (p : ℕ) (members : List Bool) (r d k : ℕ) : Type 0 where
+-- what such a vote is asked: the inputs' lengths, a card, all ten cards, at most three relays in all, and a slot with room for those left
+pub record Dealing (statuses : List ℕ) (words : List ℤ) (p : ℕ) (members : List Bool) (r d k : ℕ) : Type 0 where
   pub statuses-long : length statuses ≡ 10
+  pub table-long : length words ≡ tableWords
   pub card : p < 10
   pub cards : length members ≡ 10
   pub deep : r + d ≤ 3

@@ -11,12 +11,22 @@ ghost use Prim.Native.Nat.{_+_, _≤_, _<_};
 ghost use lib.ListN.{length};
 ghost use Rattle.ground.specs.Answer.{outcome, ofTold, ofDone};
 ghost use Rattle.words.specs.Rule.{omh};
-ghost use Rattle.settings.specs.Settings.{turnOf};
+ghost use Rattle.settings.specs.Settings.{slots, turnOf};
 ghost use Rattle.vote.specs.Vote.{ruleOf, decided};
 ghost use Rattle.exchange.specs.Exchange.{exchange, answerOf};
-ghost use Rattle.exchange.specs.Sending.{Deals};
+ghost use Rattle.exchange.specs.Asked.{tableWords};
+ghost use Rattle.exchange.specs.Sending.{sentTo, Deals};
 ghost use Rattle.bench.specs.Dealing.{Dealing, dealtVote, dealtVotes};
 ghost use Rattle.bench.specs.Asked.{answersOf, answerForAsked, answersAsked};
+
+// What card p receives at slot k from a card of this status, which sends `word` if it is good.
+fn sent_to(status: u8, word: i32, table: &[i32], k: usize, p: usize) -> i32
+    requires { ⌜ (length (now table) ≡ tableWords) × (k < slots) × (p < 10) ⌝ }
+    ensures { λ r. ⌜ r ≡ sentTo status word (now (table .entry)) k p ⌝ }
+{
+    let first = 10 * k;
+    exchange::sent_by(status, word, table[first + p], table[first])
+}
 
 // The vote of card p at slot k of level d, on which a card of this status sends, `word` if it is good. So many rounds are left; `members` are the cards that may still relay.
 fn vote_dealt(
@@ -30,11 +40,10 @@ fn vote_dealt(
     status: u8,
     word: i32,
 ) -> i32
-    requires { ⌜ Dealing (now statuses) p (now members) left d k ⌝ }
+    requires { ⌜ Dealing (now statuses) (now table) p (now members) left d k ⌝ }
     ensures { λ r. ⌜ (r ≡ dealtVote omh (now (statuses .entry)) (now (table .entry)) p (now (members .entry)) left d k status word) × (now (members .exit) ≡ now (members .entry)) ⌝ }
 {
-    let first = 10 * k;
-    let own = words::read_at(d, exchange::sent_by(status, word, table, first + p, first));
+    let own = words::read_at(d, sent_to(status, word, table, k, p));
     if left == 0 {
         return own;
     }
@@ -65,20 +74,19 @@ fn over_dealt(
     status: u8,
     word: i32,
 ) -> i32
-    requires { ⌜ Dealing (now statuses) p (now members) (left + 1) d k ⌝ }
+    requires { ⌜ Dealing (now statuses) (now table) p (now members) (left + 1) d k ⌝ }
     ensures { λ r. ⌜ (r ≡ decided omh own (dealtVotes omh (now (statuses .entry)) (now (table .entry)) p (now (members .entry)) left d k status word 10)) × (now (members .exit) ≡ now (members .entry)) ⌝ }
 {
     let mut reports = [E; REPORTS];
     reports[0] = words::wrap(own);
     let mut count: usize = 1;
-    let first = 10 * k;
     for q in 0..Settings::MAX_CARDS {
         if members[q] {
             members[q] = false;
             let sender = statuses[q];
             // Only a good card's word is looked at.
             let sends = if sender == 0 {
-                exchange::relayed(d, exchange::sent_by(status, word, table, first + q, first))
+                exchange::relayed(d, sent_to(status, word, table, k, q))
             } else {
                 E
             };
@@ -89,7 +97,7 @@ fn over_dealt(
                 members,
                 left,
                 d + 1,
-                first + 1 + q,
+                10 * k + 1 + q,
                 sender,
                 sends,
             );
@@ -103,14 +111,14 @@ fn over_dealt(
 
 // The answer of the own card, of settings that are not refused.
 fn dealt_answer(s: Settings, x: i32, statuses: &[u8], table: &[i32]) -> i32
-    requires { ⌜ Deals (s .t) (now statuses) × (s .rack .m ≤ 3) × (s .p < 10) ⌝ }
+    requires { ⌜ Deals (s .t) (now statuses) (now table) × (s .rack .m ≤ 3) × (s .p < 10) ⌝ }
     ensures { λ r. ⌜ r ≡ answerOf (ruleOf (s .rack)) (exchange (turnOf s) x (now (statuses .entry)) (now (table .entry))) (s .p) ⌝ }
 {
     let mut members = paths::may_relay(s);
     let left = paths::rounds_left(s, 0);
     let t = s.t;
     let status = statuses[t];
-    let own = words::read_at(0, exchange::sent_by(status, x, table, s.p, 0));
+    let own = words::read_at(0, sent_to(status, x, table, 0, s.p));
     if left == 0 {
         return own;
     }
@@ -141,7 +149,7 @@ pub fn answer_for(s: Settings, x: i32, statuses: &[u8], table: &[i32]) -> Told
 
 // Puts the answer of each card of the rack in its place.
 fn answer_all(turn: Turn, x: i32, statuses: &[u8], table: &[i32], answers: &mut [i32])
-    requires { ⌜ Deals (turn .t) (now statuses) × (turn .rack .m ≤ 3) × (length (now answers) ≡ 10) ⌝ }
+    requires { ⌜ Deals (turn .t) (now statuses) (now table) × (turn .rack .m ≤ 3) × (length (now answers) ≡ 10) ⌝ }
     ensures { λ r. ⌜ now (answers .exit) ≡ answersOf (ruleOf (turn .rack)) (exchange turn x (now (statuses .entry)) (now (table .entry))) (now (answers .entry)) ⌝ }
 {
     let rack = turn.rack;

@@ -19,19 +19,19 @@ ghost use Rattle.dealing.specs.Asked.{wordAsked, fillAsked};
 
 // The word that card p receives at slot k.
 fn dealt_at(t: usize, x: i32, statuses: &[u8], table: &[i32], k: usize, p: usize) -> i32
-    requires { ⌜ Deals t (now statuses) × (k < slots) × (p < 10) ⌝ }
+    requires { ⌜ Deals t (now statuses) (now table) × (k < slots) × (p < 10) ⌝ }
     ensures { λ r. ⌜ ((rack : Rack) → r ≡ dealt omh (exchange (record { rack = rack; t = t }) x (now (statuses .entry)) (now (table .entry))) k p) ⌝ }
 {
-    let first = 10 * k;
-    let own = first + p;
+    let own = table[10 * k + p];
+    let first = table[10 * k];
     if k == 0 {
-        return exchange::sent_by(statuses[t], x, table, own, first);
+        return exchange::sent_by(statuses[t], x, own, first);
     }
     let q = paths::last_relay(k);
     let above = paths::above(k);
     let word = dealt_at(t, x, statuses, table, above, q);
     let sends = exchange::relayed(paths::level_of(above), word);
-    exchange::sent_by(statuses[q], sends, table, own, first)
+    exchange::sent_by(statuses[q], sends, own, first)
 }
 
 // The word that the own card receives on the path at a slot.
@@ -52,7 +52,7 @@ pub fn word_for(s: Settings, x: i32, statuses: &[u8], table: &[i32], slot: usize
 
 // Deals the words of the own card at its live slots.
 fn deal(s: Settings, x: i32, statuses: &[u8], table: &[i32], words: &mut [i32])
-    requires { ⌜ Deals (s .t) (now statuses) × (s .rack .m ≤ 3) × (s .p < 10) × (length (now words) ≡ slots) ⌝ }
+    requires { ⌜ Deals (s .t) (now statuses) (now table) × (s .rack .m ≤ 3) × (s .p < 10) × (length (now words) ≡ slots) ⌝ }
     ensures { λ r. ⌜ now (words .exit) ≡ dealtOver (ruleOf (s .rack)) (exchange (turnOf s) x (now (statuses .entry)) (now (table .entry))) (s .p) (now (words .entry)) ⌝ }
 {
     let relays = paths::may_relay(s);

@@ -52,8 +52,10 @@ turn-asked turn x statuses long e =
     (turn-good turn (both .0), values-asked (turn .rack) x statuses long (both .1) .0)
 
 -- what a dealing is asked
-pub deals : (turn : Turn) (statuses : List ℕ) (words : List ℤ) → GoodTurn turn → inputsLong statuses words ≡ true → Deals (turn .t) statuses
-deals turn statuses words g e = record { sender = fits-ten (turn .rack) (g .rack .few) (turn .t) (g .sender); statuses-long = inputs-asked statuses words e .0 }
+pub deals : (turn : Turn) (statuses : List ℕ) (words : List ℤ) → GoodTurn turn → inputsLong statuses words ≡ true → Deals (turn .t) statuses words
+deals turn statuses words g e =
+    let long = inputs-asked statuses words e in
+    record { sender = fits-ten (turn .rack) (g .rack .few) (turn .t) (g .sender); statuses-long = long .0; table-long = long .1 }
 
 -- the own card is one of the ten
 pub own-card : (s : Settings) → Good s → s .p < 10

@@ -1,6 +1,6 @@
 -- Laws of the dealt words: what a card of each status sends, a slot from the one above, and what a card's vote goes by.
 use Prim.Native.Nat.{ℕ, zero, suc, _+_, _*_, _<_}
-use mathlib.Core.Path.{_≡_, refl, sym, ap, ap₂, _∙_}
+use mathlib.Core.Path.{_≡_, refl, sym, ap, _∙_}
 use mathlib.Core.List.{List}
 use native.Mathlib.Omega.{arith}
 use lib.Dec.{T}
@@ -16,7 +16,6 @@ use Rattle.paths.proofs.Live.{live-slot, live-zero}
 use Rattle.vote.specs.Vote.{vote}
 use Rattle.vote.proofs.Votes.{vote-live}
 use Rattle.exchange.specs.Exchange.{Exchange, statusOf, settingsFor, sent, dealtAt, dealt, received, answerOf}
-use Rattle.exchange.specs.Sending.{sentTo}
 
 -- ---- by the status byte
 
@@ -42,9 +41,12 @@ module _ (s : ℕ) (word own first : ℤ) where
       go (suc (suc zero)) a b c = absurd (c refl)
       go (suc (suc (suc s))) a b c = unfold statusOf sent in refl
 
--- from the table's places
-pub sent-at : (s : ℕ) (word : ℤ) (words : List ℤ) (k p : ℕ) {own first : ℕ} {r : ℤ} → own ≡ 10 * k + p → first ≡ 10 * k + 0 → r ≡ sent (statusOf s) word (at words own) (at words first) → r ≡ sentTo s word words k p
-sent-at s word words k p e f h = h ∙ ap₂ (λ (i j : ℕ). sent (statusOf s) word (at words i) (at words j)) e f
+pub sent-as : (s : ℕ) {v w own own' first first' : ℤ} → v ≡ w → own ≡ own' → first ≡ first' → sent (statusOf s) v own first ≡ sent (statusOf s) w own' first'
+sent-as s e f g = rw (e, f, g)
+
+-- receiver 0's word
+pub at-first : (words : List ℤ) (k : ℕ) → at words (10 * k) ≡ at words (10 * k + 0)
+at-first words k = let e : 10 * k ≡ 10 * k + 0 = omega arith in ap (at words) e
 
 -- ---- slot by slot
 

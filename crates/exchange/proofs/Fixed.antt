@@ -34,7 +34,7 @@ inputs-long-fixed κs a x y s t p q = p ∙ sym q
 pub card-refused-fixed : Fixes 1 card-refused.ps card-refused.r card-refused-says.Post ℕ (λ κs x s. x)
 card-refused-fixed κs a x y s t p q = p ∙ sym q
 
-pub sent-by-fixed : Fixes 1 sent-by.ps sent-by.r sent-by-says.Post ℤ (λ κs x s. x)
+pub sent-by-fixed : Fixes 0 sent-by.ps sent-by.r sent-by-says.Post ℤ (λ κs x s. x)
 sent-by-fixed κs a x y s t p q = p ∙ sym q
 
 pub relayed-fixed : Fixes 0 relayed.ps relayed.r relayed-says.Post ℤ (λ κs x s. x)

@@ -1,3 +1,3 @@
 pub mod Exchange
-pub mod Sending
 pub mod Asked
+pub mod Sending

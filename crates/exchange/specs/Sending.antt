@@ -6,12 +6,14 @@ use lib.IntN.{ℤ}
 use lib.ListN.{length}
 use Rattle.ground.specs.Lists.{at}
 use Rattle.exchange.specs.Exchange.{statusOf, sent}
+use Rattle.exchange.specs.Asked.{tableWords}
 
 -- what p receives at slot k from a card of this status byte, which sends the word if it is good
 abbrev pub sentTo : ℕ → ℤ → List ℤ → ℕ → ℕ → ℤ
 sentTo status word words k p = sent (statusOf status) word (at words (10 * k + p)) (at words (10 * k + 0))
 
--- the sender is one of the ten cards, and each has a status byte
-pub record Deals (t : ℕ) (statuses : List ℕ) : Type 0 where
+-- the sender is one of the ten cards, and the inputs have their right length
+pub record Deals (t : ℕ) (statuses : List ℕ) (words : List ℤ) : Type 0 where
   pub sender : t < 10
   pub statuses-long : length statuses ≡ 10
+  pub table-long : length words ≡ tableWords

@@ -7,7 +7,6 @@ use words::E;
 use words::Kind;
 ghost use mathlib.Core.Path.{_≡_};
 ghost use Rattle.ground.specs.Checks.{verdict};
-ghost use Rattle.ground.specs.Lists.{at};
 ghost use Rattle.words.specs.Word.{kindOf, readAt, wrapped};
 ghost use Rattle.exchange.specs.Exchange.{statusOf, sent};
 ghost use Rattle.exchange.specs.Asked.{inputsLong, statusBad, statusesBad, isOrdinary, statusChecks, valueChecks, cardChecks};
@@ -85,20 +84,14 @@ pub fn card_refused(s: Settings, x: i32, statuses: &[u8], long: bool) -> u8
     )
 }
 
-fn word_at(table: &[i32], place: usize) -> i32
-    ensures { λ r. ⌜ r ≡ at (now (table .entry)) place ⌝ }
-{
-    if place < table.len() { table[place] } else { 0 }
-}
-
-// What a card receives from one of this status, which sends `word` if it is good. The table has the receiver's own word at one place, and receiver 0's at the first.
-pub fn sent_by(status: u8, word: i32, table: &[i32], own: usize, first: usize) -> i32
-    ensures { λ r. ⌜ r ≡ sent (statusOf status) word (at (now (table .entry)) own) (at (now (table .entry)) first) ⌝ }
+// What a card receives from one of this status, which sends `word` if it is good; the table has two words for it, the receiver's own and receiver 0's.
+pub fn sent_by(status: u8, word: i32, own: i32, first: i32) -> i32
+    ensures { λ r. ⌜ r ≡ sent (statusOf status) word own first ⌝ }
 {
     match status {
         0 => word,
-        1 => word_at(table, own),
-        2 => word_at(table, first),
+        1 => own,
+        2 => first,
         _ => E,
     }
 }

@@ -24,7 +24,6 @@ use Rattle.paths.proofs.Handed.{put-back, room-less, room-most, room-back}
 use Rattle.vote.specs.Vote.{decided}
 use Rattle.vote.proofs.Gather.{inside, Reporting, report-first, report-more, report-same, report-done, decides}
 use Rattle.exchange.specs.Sending.{sentTo}
-use Rattle.exchange.proofs.Dealing.{sent-at}
 use Rattle.bench.specs.Dealing.{dealtVote, dealtVotes}
 use Rattle.bench.proofs.Dealing.{vote-last, vote-more, vote-sends}
 use Rattle.bench.proofs.vote_dealt.Reads as vote-dealt
@@ -34,7 +33,7 @@ use Rattle.bench.proofs.over_dealt.Reads as over-dealt
 use Rattle.bench.proofs.over_dealt.Kinds as over-dealt-kinds
 use Rattle.bench.proofs.+over_dealt+vote_dealt.Lts-over_dealt as over-dealt-lts
 use Rattle.exchange.proofs.relayed.Reads as relayed
-use Rattle.exchange.proofs.sent_by.Reads as sent-by
+use Rattle.bench.proofs.sent_to.Reads as sent-to
 use Rattle.words.proofs.majority.Reads as majority
 use Rattle.words.proofs.read_at.Reads as read-at
 use Rattle.words.proofs.unwrap.Reads as unwrap
@@ -64,25 +63,15 @@ module _ (t : ℕ) where
 
   -- what the calls of each ask and tell
   abbrev calls : vote-dealt-lts.Claims
-  calls = (sent-by.Asked, sent-by.Learnt, read-at.Asked, read-at.Learnt, over-below, over-dealt.Post)
+  calls = (sent-to.Asked, sent-to.Learnt, read-at.Asked, read-at.Learnt, over-below, over-dealt.Post)
 
   abbrev over-calls : over-dealt-lts.Claims
-  over-calls = (wrap.Asked, wrap.Learnt, sent-by.Asked, sent-by.Learnt, relayed.Asked, relayed.Learnt, vote-below, vote-dealt.Post, majority.Asked, majority.Learnt, unwrap.Asked, unwrap.Learnt)
+  over-calls = (wrap.Asked, wrap.Learnt, sent-to.Asked, sent-to.Learnt, relayed.Asked, relayed.Learnt, vote-below, vote-dealt.Post, majority.Asked, majority.Learnt, unwrap.Asked, unwrap.Learnt)
 
   -- ---- a vote
 
-  -- the slot that is asked about is one of all
-  slot : (start : vote-dealt-lts.Start calls vote-at vote-dealt.Post) → start .args .k < 1111
-  slot start = room-most (start .args .left) (start .args .k) (start .pre .1 .slot)
-
-  mul-first : vote-dealt-lts.Need-mul-first calls vote-at vote-dealt.Post
-  mul-first c = omega (arith, slot (c .before))
-
-  add-sent-by : vote-dealt-lts.Need-add-sent-by calls vote-at vote-dealt.Post
-  add-sent-by c = omega (arith, slot (c .before), c .before .pre .1 .card)
-
-  sent-by-requires : vote-dealt-lts.Need-sent-by-requires calls vote-at vote-dealt.Post
-  sent-by-requires c κs = search needs
+  sent-to-requires : vote-dealt-lts.Need-sent-to-requires calls vote-at vote-dealt.Post
+  sent-to-requires c κs = let start = c .before in let pre = start .pre .1 in (pre .table-long, room-most (start .args .left) (start .args .k) (pre .slot), pre .card)
 
   read-at-requires : vote-dealt-lts.Need-read-at-requires calls vote-at vote-dealt.Post
   read-at-requires c κs = search needs
@@ -90,10 +79,9 @@ module _ (t : ℕ) where
   -- the own reading
   own : (c : vote-dealt-lts.After-read-at calls vote-at vote-dealt.Post) → let a = c .before .before .before .args in back (c .read-at .result) ≡ omh .read (a .d) (sentTo (a .status) (back (a .word)) (now (a .table)) (a .k) (a .p))
   own c =
-      let a = c .before .before .before .args in
       back-is (sfits-of (c .read-at .ok))
       ∙ c .read-at .ensures
-      ∙ ap (omh .read (a .d)) (sent-at _ _ (now (a .table)) (a .k) (a .p) refl (omega arith) (back-is (sfits-of (c .before .sent-by .ok)) ∙ c .before .sent-by .ensures))
+      ∙ ap (omh .read (c .before .before .before .args .d)) (back-is (sfits-of (c .before .sent-to .ok)) ∙ c .before .sent-to .ensures)
 
   returns : vote-dealt-lts.Need-returns calls vote-at vote-dealt.Post
   returns c =
@@ -113,6 +101,7 @@ module _ (t : ℕ) where
         omega arith,
         record {
           statuses-long = pre .statuses-long;
+          table-long = pre .table-long;
           card = pre .card;
           cards = pre .cards;
           deep = omega arith;
@@ -135,11 +124,11 @@ module _ (t : ℕ) where
   -- ---- over the members
 
   abbrev Inv : over-dealt-lts.InvT-loop
-  Inv statuses table p members₀ own left d k status word reports₀ count₀ first q₀ members reports count q =
+  Inv statuses table p members₀ own left d k status word reports₀ count₀ q₀ members reports count q =
       (members ≡ members₀) × Reporting (may members₀) (λ q. dealtVote omh statuses table p (set members₀ q false) left (d + 1) (below k q) (getD statuses q 0) (omh .wrap (omh .read d (sentTo status (toZ w32 word) table k q)))) (at reports₀ 0) q reports count
 
   abbrev μ : over-dealt-lts.MeasureT-loop
-  μ statuses table p members₀ own left d k status word reports₀ count₀ first q₀ members reports count q = 10 - q
+  μ statuses table p members₀ own left d k status word reports₀ count₀ q₀ members reports count q = 10 - q
 
   wrap-requires : over-dealt-lts.Need-wrap-requires over-calls over-at over-dealt.Post Inv μ
   wrap-requires c κs = search needs
@@ -165,20 +154,19 @@ module _ (t : ℕ) where
   small : (c : over-dealt-lts.At-loop over-calls over-at over-dealt.Post Inv μ) → c .before .before .before .args .k < 1111
   small c = let start = c .before .before .before in room-most (start .args .left + 1) (start .args .k) (start .pre .1 .slot)
 
-  mul-first-2 : over-dealt-lts.Need-mul-first over-calls over-at over-dealt.Post Inv μ
-  mul-first-2 c = let start = c .before .before in omega (arith, room-most (start .args .left + 1) (start .args .k) (start .pre .1 .slot))
-
-  add-sent-by-2 : over-dealt-lts.Need-add-sent-by over-calls over-at over-dealt.Post Inv μ
-  add-sent-by-2 c = let turn = c .before .before .before .before in omega (arith, small (turn .before), turn .loop-test .taken)
-
-  sent-by-requires-2 : over-dealt-lts.Need-sent-by-requires over-calls over-at over-dealt.Post Inv μ
-  sent-by-requires-2 c κs = search needs
+  sent-to-requires-2 : over-dealt-lts.Need-sent-to-requires over-calls over-at over-dealt.Post Inv μ
+  sent-to-requires-2 c κs =
+      let turn = c .before .before .before .before in
+      (turn .before .before .before .before .pre .1 .table-long, small (turn .before), turn .loop-test .taken)
 
   relayed-requires : over-dealt-lts.Need-relayed-requires over-calls over-at over-dealt.Post Inv μ
   relayed-requires c κs = search needs
 
   add-vote-dealt : over-dealt-lts.Need-add-vote-dealt over-calls over-at over-dealt.Post Inv μ
   add-vote-dealt c = omega (arith, c .before .before .before .before .before .before .before .before .before .pre .1 .deep)
+
+  mul-vote-dealt : over-dealt-lts.Need-mul-vote-dealt over-calls over-at over-dealt.Post Inv μ
+  mul-vote-dealt c = omega (arith, small (c .before .before .before .before .before .before))
 
   add-vote-dealt-2 : over-dealt-lts.Need-add-vote-dealt-2 over-calls over-at over-dealt.Post Inv μ
   add-vote-dealt-2 c = omega (arith, small (c .before .before .before .before .before .before))
@@ -195,6 +183,7 @@ module _ (t : ℕ) where
         omega arith,
         record {
           statuses-long = pre .statuses-long;
+          table-long = pre .table-long;
           card = pre .card;
           cards = length-set (loop .loop .members) _ _ ∙ ap length (loop .loop .inv .0) ∙ pre .cards;
           deep = omega (arith, pre .deep);
@@ -225,7 +214,7 @@ module _ (t : ℕ) where
   sends c good =
       let a = c .before .before .before .before .before .before .before .before .args in
       ⊎-elim
-      (λ w. ap (toZ w32) (w .3) ∙ back-is (sfits-of (w .2 .ok)) ∙ w .2 .ensures ∙ ap (λ (v : ℤ). wrapped (readAt (a .d) v)) (sent-at _ _ (now (a .table)) (a .k) (c .before .before .before .before .before .loop .q) refl (omega arith) (back-is (sfits-of (w .1 .ok)) ∙ w .1 .ensures)))
+      (λ w. ap (toZ w32) (w .3) ∙ back-is (sfits-of (w .2 .ok)) ∙ w .2 .ensures ∙ ap (λ (v : ℤ). wrapped (readAt (a .d) v)) (back-is (sfits-of (w .1 .ok)) ∙ w .1 .ensures))
       (λ w. absurd (w .0 .left good))
       (c .if2 .came)
 
@@ -281,8 +270,8 @@ pub +over-dealt+vote-dealt-spec : {M : Type 1} → statement M
 +over-dealt+vote-dealt-spec =
     close μ-over-dealt μ-vote-dealt
     (λ t. over-dealt-lts.spec (over-calls t) (over-at t) over-dealt.Post (Inv t) (μ t)
-    (wrap-requires t) (set-own t) (mul-first-2 t) (loop-holds t) (element-copy-out t) (element-write t) (read-sender t) (add-sent-by-2 t) (sent-by-requires-2 t) (relayed-requires t)
-    (add-vote-dealt t) (add-vote-dealt-2 t) (add-vote-dealt-3 t) (vote-dealt-requires t) (element-write-2 t) (mul-reports t) (set-report t)
+    (wrap-requires t) (set-own t) (loop-holds t) (element-copy-out t) (element-write t) (read-sender t) (sent-to-requires-2 t) (relayed-requires t)
+    (add-vote-dealt t) (mul-vote-dealt t) (add-vote-dealt-2 t) (add-vote-dealt-3 t) (vote-dealt-requires t) (element-write-2 t) (mul-reports t) (set-report t)
     (add-count t) (add-q t) (loop-less t) (loop-again t) (share-prefix t) (slice-aggregate t) (majority-requires t) (unwrap-requires t) (over-returns t))
     (λ t. vote-dealt-lts.spec (calls t) (vote-at t) vote-dealt.Post
-    (mul-first t) (add-sent-by t) (sent-by-requires t) (read-at-requires t) (returns t) (sub-over-dealt t) (over-dealt-requires t) (returns-2 t))
+    (sent-to-requires t) (read-at-requires t) (returns t) (sub-over-dealt t) (over-dealt-requires t) (returns-2 t))

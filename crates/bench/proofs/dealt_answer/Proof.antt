@@ -1,6 +1,6 @@
 -- `bench::dealt_answer` meets its contract: the vote at slot 0, with all cards that may relay and all rounds.
 use Prim.Native.Nat.{_+_, _-_}
-use mathlib.Core.Path.{_≡_, refl, ap, _∙_}
+use mathlib.Core.Path.{_≡_, ap, _∙_}
 use native.Mathlib.Omega.{arith}
 use borrow.Author.Needs.{needs, sfits-of}
 use denote.Ref.{now}
@@ -13,7 +13,6 @@ use Rattle.paths.proofs.Handed.{left-few, room-zero}
 use Rattle.vote.specs.Vote.{ruleOf}
 use Rattle.exchange.specs.Exchange.{exchange, answerOf}
 use Rattle.exchange.specs.Sending.{sentTo}
-use Rattle.exchange.proofs.Dealing.{sent-at}
 use Rattle.bench.specs.Dealing.{dealtVote}
 use Rattle.bench.proofs.Dealing.{vote-last, vote-more, dealt-answer}
 use Rattle.bench.proofs.dealt_answer.Statement.{statement}
@@ -28,8 +27,10 @@ rounds-left-requires c κs = search needs
 read-status : tie.Need-shared-slice-read-status
 read-status c = search needs
 
-sent-by-requires : tie.Need-sent-by-requires
-sent-by-requires c κs = search needs
+sent-to-requires : tie.Need-sent-to-requires
+sent-to-requires c κs =
+    let start = c .before .before .before .before in
+    (start .pre .0 .table-long, omega arith, start .pre .2)
 
 read-at-requires : tie.Need-read-at-requires
 read-at-requires c κs = search needs
@@ -37,10 +38,9 @@ read-at-requires c κs = search needs
 -- the own reading
 own : (c : tie.After-read-at) → let a = c .before .before .before .before .before .before .args in back (c .read-at .result) ≡ ruleOf (a .s .rack) .read 0 (sentTo (getD (now (a .statuses)) (a .s .t) 0) (back (a .x)) (now (a .table)) 0 (a .s .p))
 own c =
-    let a = c .before .before .before .before .before .before .args in
     back-is (sfits-of (c .read-at .ok))
     ∙ c .read-at .ensures
-    ∙ ap (ruleOf (a .s .rack) .read 0) (sent-at _ _ (now (a .table)) 0 (a .s .p) (omega arith) refl (back-is (sfits-of (c .before .sent-by .ok)) ∙ c .before .sent-by .ensures))
+    ∙ ap (ruleOf (c .before .before .before .before .before .before .args .s .rack) .read 0) (back-is (sfits-of (c .before .sent-to .ok)) ∙ c .before .sent-to .ensures)
 
 -- the vote at slot 0 is the answer
 answer : (c : tie.After-rounds-left) → let a = c .before .before .before .args in dealtVote (ruleOf (a .s .rack)) (now (a .statuses)) (now (a .table)) (a .s .p) (c .before .may-relay .result) (c .rounds-left .result) 0 0 (getD (now (a .statuses)) (a .s .t) 0) (back (a .x)) ≡ answerOf (ruleOf (a .s .rack)) (exchange (turnOf (a .s)) (a .x) (now (a .statuses)) (now (a .table))) (a .s .p)
@@ -71,6 +71,7 @@ over-dealt-requires c κs =
     let given = start .pre .0 in
     record {
       statuses-long = given .statuses-long;
+      table-long = given .table-long;
       card = start .pre .2;
       cards = ap length (members .may-relay .ensures) ∙ length-table 10 0 _;
       deep = omega (arith, rounds .rounds-left .ensures, left-few s 0, start .pre .1);
@@ -94,7 +95,7 @@ dealt-answer-spec =
     may-relay-requires
     rounds-left-requires
     read-status
-    sent-by-requires
+    sent-to-requires
     read-at-requires
     returns
     sub-over-dealt
