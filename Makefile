@@ -4,8 +4,9 @@
 EXAMPLE = reversed_inside
 
 run: examples/$(EXAMPLE).omx
+	@tools/program --build listing
 	@echo 'the text of $<: card, status, answer'
-	@tools/program listing <$<
+	@tools/run target/bin/listing <$<
 
 test:
 	.ci/run
