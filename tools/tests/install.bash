@@ -18,6 +18,7 @@ gives 'make install' 0 '' make -s install PREFIX="$prefix" >/dev/null
 says 'make install' ''
 equal 'the installed files' "$installed" "$(files "$prefix")"
 equal "the version in pkg-config's file" "$version" "$(sed -n 's/^Version: //p' "$pc")"
+equal 'the newest version in CHANGELOG.md' "$version" "$(sed -n 's/^## //p' CHANGELOG.md | head -n 1)"
 equal 'nothing is left to fill in' '' "$(grep -r -I -l '@[A-Z]*@' "$prefix")"
 
 # What pkg-config says of the library; without pkg-config, the file read as it would read it.
