@@ -21,11 +21,11 @@ use Rattle.book.specs.Book.{Book}
 use Rattle.book.specs.Asked.{bookChecks}
 use Rattle.entering.specs.Entered.{entered}
 use Rattle.entering.specs.Asked.{enterAsked}
-use Rattle.frames.specs.Ages.{ageOf, classOf}
+use Rattle.ages.specs.Ages.{ageOf, classOf}
 use Rattle.frames.specs.Frame.{frameOf, relayFormed, wellFormed}
 use Rattle.frames.specs.Asked.{readChecks, readAsked}
 use Rattle.frames.specs.declared.Frame.{Frame}
-use Rattle.frames.specs.declared.Age.the-variants.{Current, Old, Ahead}
+use Rattle.ages.specs.declared.Age.the-variants.{Current, Old, Ahead}
 use Rattle.arrivals.specs.Entry.{frameSlot, timelyChecks, frameChecks, frameAsked}
 
 -- ---- a well formed frame has a slot

@@ -13,12 +13,12 @@ use Rattle.vote.specs.Vote.{ruleOf}
 use Rattle.book.specs.Book.{Book}
 use Rattle.book.specs.Asked.{bookChecks}
 use Rattle.entering.specs.Entered.{entered}
-use Rattle.frames.specs.Ages.{ageOf, classOf}
+use Rattle.ages.specs.Ages.{ageOf, classOf}
 use Rattle.frames.specs.Frame.{frameOf}
 use Rattle.frames.specs.Asked.{readChecks}
 use Rattle.frames.specs.declared.Frame.{Frame}
-use Rattle.frames.specs.declared.Age.{Age}
-use Rattle.frames.specs.declared.Age.the-variants.{Current, Old, Ahead}
+use Rattle.ages.specs.declared.Age.{Age}
+use Rattle.ages.specs.declared.Age.the-variants.{Current, Old, Ahead}
 
 -- the slot of a frame's path
 abbrev pub frameSlot : Frame → ℕ

@@ -1,5 +1,5 @@
 // Document 01, 'Frames' and 'Refusal numbers': a frame entered in a book.
-use frames::Age;
+use ages::Age;
 use frames::Frame;
 use ground::Done;
 use ground::refusal;
@@ -16,7 +16,7 @@ ghost use Rattle.arrivals.specs.Entry.{timelyChecks, frameAsked};
 fn untimely(s: Settings, current: u16, f: Frame) -> u8
     ensures { λ r. ⌜ r ≡ verdict (timelyChecks s current f) ⌝ }
 {
-    match frames::age_class(current, f.exchange) {
+    match ages::age_class(current, f.exchange) {
         Age::Old => refusal::OLD,
         Age::Ahead => refusal::AHEAD,
         Age::Current => {

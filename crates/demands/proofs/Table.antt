@@ -11,7 +11,7 @@ use Rattle.paths.specs.Slots.{slotOf, level, relaysBy, noneOf, different, mayRe
 use Rattle.paths.specs.Asked.{used, slotAsked, aboveAsked}
 use Rattle.text.specs.Decimal.{digitsOf, decimalOf}
 use Rattle.vote.specs.Vote.{voteFrom, voteIn, vote}
-use Rattle.frames.specs.Ages.{ageOf, classOf}
+use Rattle.ages.specs.Ages.{ageOf, classOf}
 use Rattle.exchange.specs.Exchange.{sent, dealtAt, received, answerOf}
 use Rattle.demands.specs.Worked.{sameText, worked, shown, allRight}
 

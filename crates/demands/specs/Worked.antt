@@ -10,7 +10,7 @@ use Rattle.words.specs.Rule.{omh, majorityBy}
 use Rattle.text.specs.Decimal.{decimalOf}
 use Rattle.paths.specs.Slots.{slotOf, above, level}
 use Rattle.paths.specs.Asked.{slotAsked, aboveAsked}
-use Rattle.frames.specs.Ages.{ageOf, classOf, classNumber}
+use Rattle.ages.specs.Ages.{ageOf, classOf, classNumber}
 use Rattle.omh.specs.Numbers.{numberOf}
 use Rattle.exchange.specs.Exchange.{Status, good, arbitrary, manifest, Exchange, answerOf}
 

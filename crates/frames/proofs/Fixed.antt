@@ -9,16 +9,9 @@ use Rattle.ground.specs.Answer.{Outcome, outcome}
 use Rattle.ground.specs.declared.Done.{Done}
 use Rattle.ground.proofs.Answers.{outcome-apart}
 use Rattle.frames.specs.Asked.{ofParsed}
-use Rattle.frames.specs.declared.Age.{Age}
 use Rattle.frames.specs.declared.Frame.{Frame}
 use Rattle.frames.specs.declared.Parsed.{Parsed}
 use Rattle.frames.specs.declared.Parsed.the-variants as parsed
-use Rattle.frames.proofs.next_exchange.Kinds as next-exchange
-use Rattle.frames.proofs.next_exchange.Reads as next-exchange-says
-use Rattle.frames.proofs.age_of.Kinds as age-of
-use Rattle.frames.proofs.age_of.Reads as age-of-says
-use Rattle.frames.proofs.age_class.Kinds as age-class
-use Rattle.frames.proofs.age_class.Reads as age-class-says
 use Rattle.frames.proofs.frame_of.Kinds as frame-of
 use Rattle.frames.proofs.frame_of.Reads as frame-of-says
 use Rattle.frames.proofs.refused.Kinds as refused
@@ -33,15 +26,6 @@ parsed-apart (parsed.Frame f) (parsed.Frame g) e = ap parsed.Frame (cc e)
 parsed-apart (parsed.Frame f) (parsed.Refused k) e = let z : _≡_ {A = ℕ} 0 1 = cc e in absurd (omega arith)
 parsed-apart (parsed.Refused k) (parsed.Frame f) e = let z : _≡_ {A = ℕ} 0 1 = cc e in absurd (omega arith)
 parsed-apart (parsed.Refused k) (parsed.Refused j) e = ap parsed.Refused (cc e)
-
-pub next-exchange-fixed : Fixes 0 next-exchange.ps next-exchange.r next-exchange-says.Post ℕ (λ κs x s. x)
-next-exchange-fixed κs a x y s t p q = p ∙ sym q
-
-pub age-of-fixed : Fixes 0 age-of.ps age-of.r age-of-says.Post ℕ (λ κs x s. x)
-age-of-fixed κs a x y s t p q = p ∙ sym q
-
-pub age-class-fixed : Fixes 0 age-class.ps age-class.r age-class-says.Post Age (λ κs x s. x)
-age-class-fixed κs a x y s t p q = p ∙ sym q
 
 pub frame-of-fixed : Fixes 1 frame-of.ps frame-of.r frame-of-says.Post Frame (λ κs x s. x)
 frame-of-fixed κs a x y s t p q = p ∙ sym q

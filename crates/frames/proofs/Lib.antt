@@ -1,4 +1,3 @@
-pub mod Ages
 pub mod Asking
 pub mod Round
 pub mod Fixed

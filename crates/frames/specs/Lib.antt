@@ -1,3 +1,2 @@
-pub mod Ages
 pub mod Frame
 pub mod Asked

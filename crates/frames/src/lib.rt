@@ -1,4 +1,4 @@
-// Document 01, 'Frames': the exchange number and a frame's age, reading and writing a frame.
+// Document 01, 'Frames': a frame read and written.
 use ground::Done;
 use ground::bytes;
 use ground::refusal;
@@ -6,7 +6,6 @@ ghost use mathlib.Core.Path.{_≡_};
 ghost use lib.ListN.{length};
 ghost use Rattle.ground.specs.Checks.{verdict};
 ghost use Rattle.ground.specs.Answer.{outcome, ofDone};
-ghost use Rattle.frames.specs.Ages.{nextNumber, ageOf, classOf};
 ghost use Rattle.frames.specs.Frame.{frameOf, bytesOf, relayFormed, wellFormed};
 ghost use Rattle.frames.specs.Asked.{ofParsed, readChecks, readAsked, writeAsked};
 
@@ -38,37 +37,9 @@ impl Frame {
     pub const SIZE: usize = 17;
 }
 
-pub enum Age {
-    Current,
-    Old,
-    Ahead,
-}
-
 pub enum Parsed {
     Frame(Frame),
     Refused(u8),
-}
-
-pub fn next_exchange(x: u16) -> u16
-    ensures { λ r. ⌜ r ≡ nextNumber x ⌝ }
-{
-    std::num::wrapping_add_u16(x, 1)
-}
-
-pub fn age_of(current: u16, frame: u16) -> u16
-    ensures { λ r. ⌜ r ≡ ageOf current frame ⌝ }
-{
-    std::num::wrapping_sub_u16(current, frame)
-}
-
-pub fn age_class(current: u16, frame: u16) -> Age
-    ensures { λ r. ⌜ r ≡ classOf (ageOf current frame) ⌝ }
-{
-    match age_of(current, frame) {
-        0 => Age::Current,
-        1..=32_767 => Age::Old,
-        _ => Age::Ahead,
-    }
 }
 
 // A relay at its place, from 1.

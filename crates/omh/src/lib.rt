@@ -1,6 +1,6 @@
 // What C sees: every exported function stands here and calls down. A slice is a pointer and a length, an array a pointer; an answer is 0 or a refusal number.
+use ages::Age;
 use bound::Bounded;
-use frames::Age;
 use frames::Frame;
 use frames::Parsed;
 use ground::Done;
@@ -25,7 +25,7 @@ ghost use Rattle.book.specs.Book.{bookOf};
 ghost use Rattle.book.specs.Asked.{openAsked, heldAsked};
 ghost use Rattle.entering.specs.Asked.{enterAsked};
 ghost use Rattle.refilling.specs.Refilled.{refillAsked};
-ghost use Rattle.frames.specs.Ages.{nextNumber, ageOf, classOf, classNumber};
+ghost use Rattle.ages.specs.Ages.{nextNumber, ageOf, classOf, classNumber};
 ghost use Rattle.frames.specs.Asked.{readAsked, writeAsked};
 ghost use Rattle.arrivals.specs.Entry.{frameAsked};
 ghost use Rattle.bench.specs.Asked.{answerForAsked, answersAsked};
@@ -236,14 +236,14 @@ pub extern "C" fn omh_held_answer(words: &[i32], votes: &[i32], answer: &mut i32
 pub extern "C" fn omh_next_exchange(x: u16) -> u16
     ensures { λ r. ⌜ r ≡ nextNumber x ⌝ }
 {
-    frames::next_exchange(x)
+    ages::next_exchange(x)
 }
 
 #[no_mangle]
 pub extern "C" fn omh_age(current: u16, frame: u16) -> u16
     ensures { λ r. ⌜ r ≡ ageOf current frame ⌝ }
 {
-    frames::age_of(current, frame)
+    ages::age_of(current, frame)
 }
 
 // 0 for current, 12 for old, 13 for ahead.
@@ -251,7 +251,7 @@ pub extern "C" fn omh_age(current: u16, frame: u16) -> u16
 pub extern "C" fn omh_age_class(current: u16, frame: u16) -> u8
     ensures { λ r. ⌜ r ≡ classNumber (classOf (ageOf current frame)) ⌝ }
 {
-    match frames::age_class(current, frame) {
+    match ages::age_class(current, frame) {
         Age::Current => 0,
         Age::Old => ground::refusal::OLD,
         Age::Ahead => ground::refusal::AHEAD,

@@ -1,7 +1,7 @@
 -- `omh::omh_age_class` meets its contract: each arm is told by the class.
 use mathlib.Core.Path.{sym, ap, _∙_}
 use borrow.Author.Needs.{needs}
-use Rattle.frames.specs.Ages.{classNumber}
+use Rattle.ages.specs.Ages.{classNumber}
 use Rattle.omh.proofs.omh_age_class.Statement.{statement}
 use Rattle.omh.proofs.omh_age_class.Tie as tie
 

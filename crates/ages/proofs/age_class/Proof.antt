@@ -1,10 +1,10 @@
--- `frames::age_class` meets its contract: each range of ages has its class.
+-- `ages::age_class` meets its contract: each range of ages has its class.
 use mathlib.Core.Path.{_≡_, sym}
 use native.Mathlib.Omega.{arith}
 use borrow.Author.Needs.{needs}
-use Rattle.frames.proofs.Ages.{is-current, is-old, is-ahead}
-use Rattle.frames.proofs.age_class.Statement.{statement}
-use Rattle.frames.proofs.age_class.Tie as tie
+use Rattle.ages.proofs.Ages.{is-current, is-old, is-ahead}
+use Rattle.ages.proofs.age_class.Statement.{statement}
+use Rattle.ages.proofs.age_class.Tie as tie
 
 age-of-requires : tie.Need-age-of-requires
 age-of-requires c κs = search needs

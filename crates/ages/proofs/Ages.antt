@@ -4,8 +4,8 @@ use mathlib.Core.Path.{_≡_}
 use mathlib.Core.Logic.{_↔_}
 use native.Mathlib.Omega.{arith}
 use borrow.Author.Tests.{le-leb, lt-leb, eq-eqb, ne-eqb}
-use Rattle.frames.specs.Ages.{nextNumber, ageOf, classOf}
-use Rattle.frames.specs.declared.Age.the-variants.{Current, Old, Ahead}
+use Rattle.ages.specs.Ages.{nextNumber, ageOf, classOf}
+use Rattle.ages.specs.declared.Age.the-variants.{Current, Old, Ahead}
 
 module _ (current frame : ℕ) (c : current < 65536) (f : frame < 65536) where
   pub age-below : ageOf current frame < 65536

@@ -1,8 +1,8 @@
--- `frames::next_exchange` meets its contract.
+-- `ages::next_exchange` meets its contract.
 use borrow.Author.Needs.{needs}
-use Rattle.frames.specs.Ages.{nextNumber}
-use Rattle.frames.proofs.next_exchange.Statement.{statement}
-use Rattle.frames.proofs.next_exchange.Tie as tie
+use Rattle.ages.specs.Ages.{nextNumber}
+use Rattle.ages.proofs.next_exchange.Statement.{statement}
+use Rattle.ages.proofs.next_exchange.Tie as tie
 
 wrapping-add-u16-requires : tie.Need-wrapping-add-u16-requires
 wrapping-add-u16-requires c κs = search needs

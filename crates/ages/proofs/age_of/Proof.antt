@@ -1,9 +1,9 @@
--- `frames::age_of` meets its contract: a wrapping difference is what the frame's number lacks.
+-- `ages::age_of` meets its contract: a wrapping difference is what the frame's number lacks.
 use native.Mathlib.Omega.{arith}
 use borrow.Author.Needs.{needs}
-use Rattle.frames.specs.Ages.{ageOf}
-use Rattle.frames.proofs.age_of.Statement.{statement}
-use Rattle.frames.proofs.age_of.Tie as tie
+use Rattle.ages.specs.Ages.{ageOf}
+use Rattle.ages.proofs.age_of.Statement.{statement}
+use Rattle.ages.proofs.age_of.Tie as tie
 
 wrapping-sub-u16-requires : tie.Need-wrapping-sub-u16-requires
 wrapping-sub-u16-requires c κs = search needs

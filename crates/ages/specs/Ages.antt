@@ -3,8 +3,8 @@ use Prim.Native.Nat.{ℕ, _+_, _-_, _%_}
 use mathlib.Core.Bool.{cond}
 use lib.Dec.{eqb, leb}
 use Rattle.ground.specs.Refusal as refusal
-use Rattle.frames.specs.declared.Age.{Age}
-use Rattle.frames.specs.declared.Age.the-variants.{Current, Old, Ahead}
+use Rattle.ages.specs.declared.Age.{Age}
+use Rattle.ages.specs.declared.Age.the-variants.{Current, Old, Ahead}
 
 -- after 65,535 comes 0
 unfoldable pub nextNumber : ℕ → ℕ
