@@ -22,7 +22,7 @@ test: ## runs the gate, .ci/run
 
 host: ## builds the archive for C and Rust, and the bench host, host/build/bench
 	tools/archive
-	$(MAKE) -C host
+	flock host $(MAKE) -C host
 
 bench: ## measures the library beside plain C
 	tools/archive
