@@ -1,6 +1,7 @@
 -- Each public function's contract fixes its answer, and what both lists hold afterwards: two outcomes that it allows are equal.
 use Prim.Native.Nat.{ℕ}
 use mathlib.Core.Path.{sym, _∙_}
+use mathlib.Core.Bool.{Bool}
 use denote.Ref.{now}
 use Rattle.ground.specs.Answer.{Outcome, outcome}
 use Rattle.ground.specs.Fixes.{Fixes}
@@ -8,12 +9,17 @@ use Rattle.ground.specs.declared.Told.{Told}
 use Rattle.ground.specs.declared.Done.{Done}
 use Rattle.ground.proofs.Answers.{told-apart, outcome-apart}
 use Rattle.book.specs.Book.{Book, bookOf}
+use Rattle.book.proofs.is_whole.Kinds as is-whole
+use Rattle.book.proofs.is_whole.Reads as is-whole-says
 use Rattle.book.proofs.book_refused.Kinds as book-refused
 use Rattle.book.proofs.book_refused.Reads as book-refused-says
 use Rattle.book.proofs.open.Kinds as «open»
 use Rattle.book.proofs.open.Reads as open-says
 use Rattle.book.proofs.held_answer.Kinds as held-answer
 use Rattle.book.proofs.held_answer.Reads as held-answer-says
+
+pub is-whole-fixed : Fixes 2 is-whole.ps is-whole.r is-whole-says.Post Bool (λ κs x s. x)
+is-whole-fixed κs a x y s t p q = p ∙ sym q
 
 pub book-refused-fixed : Fixes 2 book-refused.ps book-refused.r book-refused-says.Post ℕ (λ κs x s. x)
 book-refused-fixed κs a x y s t p q = p ∙ sym q

@@ -13,7 +13,7 @@ ghost use Rattle.book.specs.Book.{bookOf, sized};
 ghost use Rattle.book.specs.Asked.{bookChecks, openAsked, heldAsked};
 
 // Whether both lists have their right length.
-fn is_whole(words: &[i32], votes: &[i32]) -> bool
+pub fn is_whole(words: &[i32], votes: &[i32]) -> bool
     ensures { λ r. ⌜ r ≡ sized (bookOf (now (words .entry)) (now (votes .entry))) ⌝ }
 {
     (words.len() == Settings::SLOTS) & (votes.len() == Settings::SLOTS)

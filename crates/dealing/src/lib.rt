@@ -75,8 +75,7 @@ pub fn fill(
 ) -> Done
     ensures { λ r. ⌜ outcome (ofDone r) (bookOf (now (words .exit)) (now (votes .exit))) ≡ fillAsked s x (now (statuses .entry)) (now (table .entry)) (bookOf (now (words .entry)) (now (votes .entry))) ⌝ }
 {
-    let whole = (words.len() == Settings::SLOTS) & (votes.len() == Settings::SLOTS);
-    let long = exchange::inputs_long(statuses, table) & whole;
+    let long = exchange::inputs_long(statuses, table) & book::is_whole(words, votes);
     let no = exchange::card_refused(s, x, statuses, long);
     if no != 0 {
         return Done::Refused(no);
