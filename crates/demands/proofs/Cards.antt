@@ -9,6 +9,7 @@ use lib.Dec.{T, eqb}
 use lib.IntN.{ℤ, pos}
 use lib.ListN.{length, getD}
 use borrow.Author.Tests.{eq-eqb}
+use Rattle.ground.specs.Refusal as refusal
 use Rattle.ground.specs.Checks.{Check, check, verdict, NoneOf}
 use Rattle.ground.specs.Answer.{value, after, outcomeBy}
 use Rattle.ground.specs.Lists.{at}
@@ -111,7 +112,7 @@ module _ (turn : Turn) (x : ℤ) (statuses : List ℕ) (words : List ℤ) where
 
     -- the checks of a vote at slot 0 that come after those of the settings
     abbrev rest : List ℤ → List Check
-    rest ws = check 5 (not (eqb (length ws) slots)) ∷ check 8 (not (live (own p) 0)) ∷ []
+    rest ws = check refusal.long (not (eqb (length ws) slots)) ∷ check refusal.path (not (live (own p) 0)) ∷ []
 
     -- the plain vote over words that are, on each live path, the word dealt there
     pub votes-answer : (ws : List ℤ) → length ws ≡ slots → ((k : ℕ) → T (live (own p) k) → at ws k ≡ dealt (ruleOf (turn .rack)) X k p) → voteAsked (own p) ws 0 ≡ value w

@@ -68,9 +68,9 @@ module _ (j : ℕ) where
   sent-by-requires : lts.Need-sent-by-requires calls given says.Post
   sent-by-requires c κs = search needs
 
-  -- from the table's two words to what is sent
-  told : (c : lts.After-first calls given says.Post) (status : ℕ) {v w : ℤ} → v ≡ w → let a = c .before .before .before .args in sent (statusOf status) v (back (at (now (a .table)) (10 * a .k + a .p))) (back (at (now (a .table)) (10 * a .k))) ≡ sentTo status w (now (a .table)) (a .k) (a .p)
-  told c status e =
+  -- the table's two words are those of the definition
+  from-table : (c : lts.After-first calls given says.Post) (status : ℕ) {v w : ℤ} → v ≡ w → let a = c .before .before .before .args in sent (statusOf status) v (back (at (now (a .table)) (10 * a .k + a .p))) (back (at (now (a .table)) (10 * a .k))) ≡ sentTo status w (now (a .table)) (a .k) (a .p)
+  from-table c status e =
       let a = c .before .before .before .args in
       sent-as status e (back-is (sfits-of (c .before .own .given))) (back-is (sfits-of (c .first .given)) ∙ at-first (now (a .table)) (a .k))
 
@@ -81,7 +81,7 @@ module _ (j : ℕ) where
       let start = read .before .before .before in
       let a = start .args in
       dealt-first omh (exchange (record { rack = rack; t = a .t }) (a .x) (now (a .statuses)) (now (a .table))) (a .k) (a .p) (zero .if1 .taken) refl
-      (back-is (sfits-of (c .sent-by .ok)) ∙ c .sent-by .ensures ∙ told read _ (back-is (start .fits .x)))
+      (back-is (sfits-of (c .sent-by .ok)) ∙ c .sent-by .ensures ∙ from-table read _ (back-is (start .fits .x)))
 
   last-relay-requires : lts.Need-last-relay-requires calls given says.Post
   last-relay-requires c κs = search needs
@@ -133,7 +133,7 @@ module _ (j : ℕ) where
       ∙ ap₂ (dealt omh (X (a .x))) (up .above .ensures) (last .last-relay .ensures))))
       (back-is (sfits-of (c .sent-by2 .ok))
       ∙ c .sent-by2 .ensures
-      ∙ told read _ refl
+      ∙ from-table read _ refl
       ∙ ap (λ (q : ℕ). sentTo (getD (now (a .statuses)) q 0) (back (relay .relayed .result)) (now (a .table)) (a .k) (a .p)) (last .last-relay .ensures))
 
 pub +dealt-at-spec : {M : Type 1} → statement M
