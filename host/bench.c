@@ -7,7 +7,7 @@
 #include <string.h>
 
 static const struct command *const commands[] = {
-    &list_command, &frame_command, &card_command, &soak_command,
+    &list_command, &outcome_command, &frame_command, &card_command, &soak_command,
 };
 
 enum { COMMANDS = sizeof commands / sizeof commands[0] };
@@ -23,7 +23,7 @@ static void print_help(void)
          "\n"
          "Commands:");
     for (size_t i = 0; i < COMMANDS; i++)
-        printf("  %-6s %s\n", commands[i]->name, commands[i]->purpose);
+        printf("  %-7s %s\n", commands[i]->name, commands[i]->purpose);
     puts("\n"
          "Options begin with --, and -- alone ends them.\n"
          "\n"
@@ -31,8 +31,9 @@ static void print_help(void)
          "being the number in docs/FORMATS.md, and says which field is wrong; of a\n"
          "listing file standard error says it.\n"
          "\n"
-         "Exit status: 0 if all was done; 1 for a refusal, a garbled line or a failed\n"
-         "soak; 2 for wrong usage, or where a file cannot be read or written.");
+         "Exit status: 0 if all was done; 1 for a refusal, a garbled line, files of two\n"
+         "racks or a failed soak; 2 for wrong usage, or where a file cannot be read or\n"
+         "written.");
 }
 
 static int run_command(const struct command *command, int count, char **arguments)

@@ -1,4 +1,4 @@
-/* A card's book: the library's calls on it. */
+/* A card's book, and its books for every sender: the library's calls on them. */
 #include "book.h"
 
 uint8_t book_open(const struct settings *s, struct book *book)
@@ -31,4 +31,21 @@ uint8_t book_answer(const struct book *book, int32_t *answer)
 uint8_t book_vote(const struct settings *s, const struct book *book, size_t slot, int32_t *vote)
 {
     return omh_vote_at(s->n, s->m, s->t, s->p, book->words, OMH_SLOTS, slot, vote);
+}
+
+uint8_t books_open(const struct settings *s, struct books *books)
+{
+    return omh_books_open(s->n, s->m, s->t, s->p, books->list, OMH_BOOKS);
+}
+
+uint8_t books_enter_frame(const struct settings *s, struct books *books, uint16_t current,
+                          const uint8_t *frame, size_t length)
+{
+    return omh_books_enter_frame(s->n, s->m, s->t, s->p, books->list, OMH_BOOKS, current, frame, length);
+}
+
+uint8_t books_answer(size_t t, const struct books *books, int32_t *answer)
+{
+    const int32_t *words = books->list + OMH_BOOK * t, *votes = words + OMH_SLOTS;
+    return omh_held_answer(words, OMH_SLOTS, votes, OMH_SLOTS, answer);
 }

@@ -1,4 +1,4 @@
-/* bench card: one card's book, into which frames are entered. */
+/* bench card: a card's book, or its books for every sender, into which frames are entered. */
 #include "book.h"
 #include "commands.h"
 #include "ending.h"
@@ -6,15 +6,17 @@
 #include "lines.h"
 #include "number.h"
 
-#include <inttypes.h>
+#include <string.h>
 
 static const char help[] =
     "usage: bench card N M T P [EXCHANGE]\n"
+    "       bench card N M all P [EXCHANGE]\n"
     "\n"
-    "Opens the book of card P among N cards, with M rounds of relay and the sender T.\n"
-    "Reads frames from standard input, one to a line, in hex as `bench frame` makes\n"
-    "them, and enters each; blank lines and lines that begin with # are passed over.\n"
-    "EXCHANGE is the current exchange number, 0 if it is not given.\n"
+    "Opens the book of card P among N cards, with M rounds of relay and the sender T;\n"
+    "with `all`, its books for every sender. Reads frames from standard input, one to\n"
+    "a line, in hex as `bench frame` makes them, and enters each, with `all` in the\n"
+    "book of the sender that it names; blank lines and lines that begin with # are\n"
+    "passed over. EXCHANGE is the current exchange number, 0 if it is not given.\n"
     "\n"
     "Prints a line for each frame, in their order:\n"
     "  accepted\n"
@@ -23,48 +25,69 @@ static const char help[] =
     "K is the refusal's number. The path is the frame's sender and used relays; it is\n"
     "left out where the bytes have not a frame's length, mark and version. A garbled\n"
     "line is not hex. A line `answer A` has the held answer, - where there is none,\n"
-    "at the start and whenever it changes.\n"
+    "at the start and whenever it changes. With `all` a line `answer T A` has the\n"
+    "held answer of the book of sender T whenever it changes; all start as -.\n"
+    "\n"
+    "For example, card 3 among 4 cards is told 30 by card 0, and 45 by card 1:\n"
+    "  { bench frame make 0 0 0 - - - 3 30; bench frame make 0 1 0 - - - 3 45; } |\n"
+    "      bench card 4 1 all 3\n"
     "\n"
     "Exit status: 0 if all was accepted, 1 if the settings or a frame were refused or\n"
     "a line was garbled, 2 for wrong usage or input that cannot be read.\n";
 
-/* A book in use. */
+/* Books in use: that of the sender t, or with `all` those of every card. */
 struct card {
-    struct settings settings;
+    struct settings settings;       /* with `all`, t changes with the book in use */
+    bool all;
     uint16_t exchange;
-    struct book book;
-    int32_t answer;     /* as last printed */
+    struct books books;
+    int32_t answers[OMH_CARDS];     /* by sender, as opened or last told */
 };
 
-/* Not refused, as the book's lists have the right length. */
+/* Of the book in use. Not refused, as its lists have the right length. */
 static int32_t held_answer(const struct card *card)
 {
     int32_t answer = OMH_E;
-    book_answer(&card->book, &answer);
+    books_answer(card->settings.t, &card->books, &answer);
     return answer;
 }
 
-/* Prints the held answer, as a listing does. */
-static void print_answer(struct card *card)
+/* Tells the held answer of the book in use, as a listing does. */
+static void tell_answer(struct card *card)
 {
-    card->answer = held_answer(card);
-    if (card->answer == OMH_E)
-        puts("answer -");
-    else
-        printf("answer %" PRId32 "\n", card->answer);
+    char text[WORD_TEXT];
+    size_t t = card->settings.t;
+    card->answers[t] = held_answer(card);
+    fputs("answer ", stdout);
+    if (card->all)
+        printf("%zu ", t);
+    puts(word_text(card->answers[t], text));
+}
+
+/* The sender that the frame names. Where it names no card of the rack, or is no
+   frame: 0, whose book refuses it, as every other would. */
+static size_t sender_of(const struct card *card, const struct bytes *frame)
+{
+    int32_t fields[OMH_FIELDS];
+    if (omh_read_frame(frame->at, bytes_kept(frame), fields) != 0 || (size_t)fields[OMH_SENDER] >= card->settings.n)
+        return 0;
+    return (size_t)fields[OMH_SENDER];
 }
 
 /* Answers whether the frame was accepted. */
 static bool enter_frame(struct card *card, const struct bytes *frame, uint64_t line)
 {
-    uint8_t refused = book_enter_frame(&card->settings, &card->book, card->exchange, frame->at, bytes_kept(frame));
+    struct settings *s = &card->settings;
+    if (card->all)
+        s->t = sender_of(card, frame);
+    uint8_t refused = books_enter_frame(s, &card->books, card->exchange, frame->at, bytes_kept(frame));
     if (refused != 0) {
-        print_not_entered(refused, line, frame, &card->settings, card->exchange);
+        print_not_entered(refused, line, frame, s, card->exchange);
         return false;
     }
     puts("accepted");
-    if (held_answer(card) != card->answer)
-        print_answer(card);
+    if (held_answer(card) != card->answers[s->t])
+        tell_answer(card);
     return true;
 }
 
@@ -78,9 +101,11 @@ static bool take_line(void *with, const struct line *line)
 
 static bool take_settings(int count, char **arguments, struct card *card)
 {
-    uint64_t n, m, t, p, exchange = 0;
+    uint64_t n, m, t = 0, p, exchange = 0;
+    card->all = strcmp(arguments[2], "all") == 0;
     if (!take_natural("N", arguments[0], 0, SIZE_MAX, &n) || !take_natural("M", arguments[1], 0, SIZE_MAX, &m)
-        || !take_natural("T", arguments[2], 0, SIZE_MAX, &t) || !take_natural("P", arguments[3], 0, SIZE_MAX, &p)
+        || (!card->all && !take_natural("T", arguments[2], 0, SIZE_MAX, &t))
+        || !take_natural("P", arguments[3], 0, SIZE_MAX, &p)
         || (count == 5 && !take_natural("EXCHANGE", arguments[4], 0, UINT16_MAX, &exchange)))
         return false;
     card->settings = (struct settings){(size_t)n, (size_t)m, (size_t)t, (size_t)p};
@@ -88,23 +113,37 @@ static bool take_settings(int count, char **arguments, struct card *card)
     return true;
 }
 
+/* Opens the book of t, with `all` every book from t on; answers 0 or the refusal's number. */
+static uint8_t open_books(struct card *card)
+{
+    struct settings *s = &card->settings;
+    do {
+        uint8_t refused = books_open(s, &card->books);
+        if (refused != 0)
+            return refused;
+        card->answers[s->t] = held_answer(card);
+    } while (card->all && ++s->t < s->n);
+    return 0;
+}
+
 static int run(int count, char **arguments)
 {
     if (count != 4 && count != 5)
-        return wrong_usage("card takes four or five arguments: N M T P [EXCHANGE]");
-    struct card card;
+        return wrong_usage("card takes four or five arguments: N M T P [EXCHANGE] or N M all P [EXCHANGE]");
+    static struct card card;
     if (!take_settings(count, arguments, &card))
         return WRONG_USAGE;
-    uint8_t refused = book_open(&card.settings, &card.book);
+    uint8_t refused = open_books(&card);
     if (refused != 0) {
         print_not_opened(refused, &card.settings);
         return REFUSED;
     }
-    print_answer(&card);
+    if (!card.all)
+        tell_answer(&card);
     fflush(stdout);
     return each_line(take_line, &card);
 }
 
 const struct command card_command = {
-    "card", "enters frames in a card's book, and tells its held answer", help, NULL, run,
+    "card", "enters frames in a card's books, and tells its held answers", help, NULL, run,
 };

@@ -13,6 +13,7 @@ struct command {
 };
 
 extern const struct command list_command;
+extern const struct command outcome_command;
 extern const struct command frame_command;
 extern const struct command card_command;
 extern const struct command soak_command;

@@ -5,6 +5,13 @@
 #include <stdio.h>
 #include <string.h>
 
+void begin_message(const char *name)
+{
+    fputs("bench: ", stderr);
+    if (name != NULL)
+        fprintf(stderr, "%s: ", name);
+}
+
 int wrong_usage(const char *message)
 {
     fprintf(stderr, "bench: %s\n", message);

@@ -1,4 +1,4 @@
-/* An exchange on the bench, drawn at random. */
+/* An exchange on the bench, which a soak draws at random. */
 #include "exchange.h"
 
 #include <inttypes.h>
@@ -7,6 +7,10 @@
 enum { PALETTE = 8 };       /* how many words a table is drawn from */
 
 #define ORDINARY_MOST INT32_C(999999999)
+
+const char *const status_names[] = {
+    [OMH_GOOD] = "good", [OMH_ARBITRARY] = "arbitrary", [OMH_SYMMETRIC] = "symmetric", [OMH_MANIFEST] = "manifest",
+};
 
 bool is_ordinary(int32_t word)
 {

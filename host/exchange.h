@@ -1,4 +1,4 @@
-/* An exchange on the bench, drawn at random. */
+/* An exchange on the bench, which a soak draws at random. */
 #ifndef EXCHANGE_H
 #define EXCHANGE_H
 
@@ -13,6 +13,9 @@ struct exchange {
     uint8_t statuses[OMH_CARDS];
     int32_t table[OMH_TABLE];
 };
+
+/* The name of each status. */
+extern const char *const status_names[];
 
 bool is_ordinary(int32_t word);
 

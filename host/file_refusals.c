@@ -1,7 +1,7 @@
 /* Why a listing file is refused. */
 #include "file_refusals.h"
 
-#include "exchange.h"
+#include "ending.h"
 #include "listing.h"
 #include "reasons.h"
 
@@ -53,10 +53,11 @@ static void say_exception(const struct bytes *file)
     }
 }
 
-void explain_refused_file(uint8_t number, const struct bytes *file)
+void explain_refused_file(uint8_t number, const struct bytes *file, const char *name)
 {
     struct settings s = settings_in(file, 0);
-    fprintf(stderr, "bench: refused %u: ", (unsigned)number);
+    begin_message(name);
+    fprintf(stderr, "refused %u: ", (unsigned)number);
     switch (number) {
     case OMH_REFUSED_SIZE:
         say_size(file);
@@ -71,8 +72,7 @@ void explain_refused_file(uint8_t number, const struct bytes *file)
         say_status(file);
         break;
     case OMH_REFUSED_VALUE:
-        fprintf(stderr, "X is %" PRId32 ", not %" PRId32 " to %" PRId32, (int32_t)bytes_number(file, 18, 4),
-                1 - OMH_E, OMH_E - 1);
+        fprintf(stderr, "X is %" PRId32 ", not %" PRId32 " to %" PRId32, value_in(file), 1 - OMH_E, OMH_E - 1);
         break;
     case OMH_REFUSED_EXCEPTION:
         say_exception(file);

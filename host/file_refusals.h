@@ -4,7 +4,7 @@
 
 #include "bytes.h"
 
-/* Says on standard error which field of the file is wrong, and its value. */
-void explain_refused_file(uint8_t number, const struct bytes *file);
+/* Says on standard error which field of the file is wrong, and its value; `name` is null where there is one file. */
+void explain_refused_file(uint8_t number, const struct bytes *file, const char *name);
 
 #endif

@@ -113,7 +113,9 @@ static void print_age_reason(uint16_t exchange, uint16_t current)
 
 static void print_foreign_reason(const int32_t fields[OMH_FIELDS], const struct settings *s)
 {
-    if ((size_t)fields[OMH_SENDER] != s->t)
+    if ((size_t)fields[OMH_SENDER] >= s->n)
+        printf("SENDER is %" PRId32 ", and the last card is %zu", fields[OMH_SENDER], s->n - 1);
+    else if ((size_t)fields[OMH_SENDER] != s->t)
         printf("SENDER is %" PRId32 ", the book's is %zu", fields[OMH_SENDER], s->t);
     else
         printf("RECEIVER is %" PRId32 ", the book's is %zu", fields[OMH_RECEIVER], s->p);

@@ -1,13 +1,10 @@
 /* bench list: a listing file, listed by the library. */
-#include "bytes.h"
 #include "commands.h"
 #include "ending.h"
 #include "file_refusals.h"
+#include "input.h"
+#include "listing.h"
 #include "notes.h"
-#include "omh.h"
-
-#include <stdlib.h>
-#include <string.h>
 
 static const char help[] =
     "usage: bench list FILE\n"
@@ -23,41 +20,23 @@ static const char help[] =
     "\n"
     "Exit status: 0 if listed, 1 if refused, 2 if the file cannot be read.\n";
 
-/* Prints the text of the file's listing. */
-static int list(const struct bytes *file)
-{
-    static const char mark[] = "refused ";
-    uint8_t text[OMH_TEXT + 1];
-    size_t length = omh_list(file->at, bytes_kept(file), text);
-    text[length] = '\0';
-    fwrite(text, 1, length, stdout);
-    fflush(stdout);
-    if (strncmp((const char *)text, mark, sizeof mark - 1) != 0) {
-        print_notes(file);
-        return DONE;
-    }
-    explain_refused_file((uint8_t)strtoul((const char *)text + sizeof mark - 1, NULL, 10), file);
-    return REFUSED;
-}
-
-static int list_file(FILE *file, const char *name)
-{
-    struct bytes bytes = {{0}, 0};
-    return bytes_read_all(&bytes, file) ? list(&bytes) : wrong_file(name);
-}
-
 static int run(int count, char **arguments)
 {
     if (count != 1)
         return wrong_usage("list takes one argument: FILE");
-    if (strcmp(arguments[0], "-") == 0)
-        return list_file(stdin, "standard input");
-    FILE *file = fopen(arguments[0], "rb");
-    if (file == NULL)
-        return wrong_file(arguments[0]);
-    int status = list_file(file, arguments[0]);
-    fclose(file);
-    return status;
+    struct bytes file;
+    if (!input_read(arguments[0], &file))
+        return NOT_DONE;
+    char text[OMH_TEXT + 1];
+    uint8_t refused = text_of(&file, text);
+    fputs(text, stdout);
+    fflush(stdout);
+    if (refused != 0) {
+        explain_refused_file(refused, &file, NULL);
+        return REFUSED;
+    }
+    print_notes(&file, NULL);
+    return DONE;
 }
 
-const struct command list_command = {"list", "lists the outcome of a listing file", help, NULL, run};
+const struct command list_command = {"list", "lists the answers of the cards in a listing file", help, NULL, run};

@@ -1,7 +1,7 @@
 /* Notes on a listing file that is accepted: exceptions whose word no card receives. */
 #include "notes.h"
 
-#include "exchange.h"
+#include "ending.h"
 #include "listing.h"
 #include "path.h"
 #include "reasons.h"
@@ -48,7 +48,7 @@ static void say_not_received(const struct bytes *file, const struct exception *e
     if (!is_live(&nobody, e->slot))
         print_path_reason(&nobody, &path, stderr);
     else if (status == OMH_GOOD || status == OMH_MANIFEST)
-        fprintf(stderr, "card %zu sends on this path, and is %s", card, status == OMH_GOOD ? "good" : "manifest");
+        fprintf(stderr, "card %zu sends on this path, and is %s", card, status_names[status]);
     else if (status == OMH_SYMMETRIC && e->receiver > 0)
         fprintf(stderr, "card %zu sends on this path, and is symmetric: all receive the word for receiver 0", card);
     else if (status == OMH_SYMMETRIC)
@@ -72,7 +72,7 @@ static size_t replacing(const struct bytes *file, size_t i)
 }
 
 /* Notes count exceptions from 1. */
-void print_notes(const struct bytes *file)
+void print_notes(const struct bytes *file, const char *name)
 {
     for (size_t i = 0; i < exceptions_in(file); i++) {
         struct exception e = exception_in(file, i);
@@ -80,8 +80,8 @@ void print_notes(const struct bytes *file)
         size_t by = replacing(file, i);
         if (received && by == i)
             continue;
-        fprintf(stderr, "bench: note: exception %zu, slot %zu, receiver %zu, has no effect: ",
-                i + 1, e.slot, e.receiver);
+        begin_message(name);
+        fprintf(stderr, "note: exception %zu, slot %zu, receiver %zu, has no effect: ", i + 1, e.slot, e.receiver);
         if (received)
             fprintf(stderr, "exception %zu replaces it", by + 1);
         else

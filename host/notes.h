@@ -5,7 +5,7 @@
 #include "bytes.h"
 
 /* Says on standard error, a line each, which exceptions have no effect, and why:
-   no card receives their word. */
-void print_notes(const struct bytes *file);
+   no card receives their word. `name` is null where there is one file. */
+void print_notes(const struct bytes *file, const char *name);
 
 #endif

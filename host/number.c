@@ -1,4 +1,4 @@
-/* Numbers as arguments. */
+/* Numbers as arguments, and words as text. */
 #include "number.h"
 
 #include "omh.h"
@@ -47,4 +47,12 @@ bool take_word(const char *name, const char *text, int32_t *word)
         return false;
     }
     return true;
+}
+
+const char *word_text(int32_t word, char text[WORD_TEXT])
+{
+    if (word == OMH_E)
+        return strcpy(text, "-");
+    snprintf(text, WORD_TEXT, "%" PRId32, word);
+    return text;
 }

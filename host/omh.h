@@ -38,13 +38,16 @@ extern "C" {
 #endif
 
 /* The version of header and archive, stated here alone. */
-#define OMH_VERSION "1.0.0"
+#define OMH_VERSION "1.1.0"
 
 enum {
     OMH_CARDS = 10,     /* the greatest number of cards */
     OMH_ROUNDS = 3,     /* the greatest number of rounds of relay */
     OMH_SLOTS = 1111,   /* the length of a book's lists */
+    OMH_BOOK = 2222,    /* a book's words and votes in the long list */
+    OMH_BOOKS = 22220,  /* the long list: a book for each of the ten cards as sender; that of t from OMH_BOOK * t on */
     OMH_TABLE = 11110,  /* the length of the bench's table: slot k, receiver p at 10 k + p */
+    OMH_OUTCOME = 100,  /* the outcome: sender t's row from 10 t on, card p's word at 10 t + p */
     OMH_FRAME = 17,     /* a frame's bytes */
     OMH_FIELDS = 8,     /* a frame's fields */
     OMH_TEXT = 176      /* the longest text of a listing fits */
@@ -84,19 +87,25 @@ enum {
     OMH_STACK_ENTER = 1024,
     OMH_STACK_REFILL = 2048,
     OMH_STACK_HELD_ANSWER = 512,
+    OMH_STACK_BOOKS_OPEN = 512,
+    OMH_STACK_BOOKS_ENTER = 1024,
+    OMH_STACK_BOOKS_REFILL = 8192,      /* a book's words among them */
     OMH_STACK_NEXT_EXCHANGE = 512,
     OMH_STACK_AGE = 512,
     OMH_STACK_AGE_CLASS = 512,
     OMH_STACK_READ_FRAME = 512,
     OMH_STACK_WRITE_FRAME = 512,
     OMH_STACK_ENTER_FRAME = 1024,
+    OMH_STACK_BOOKS_ENTER_FRAME = 1024,
     OMH_STACK_WORD_FOR = 1024,
     OMH_STACK_ANSWER_FOR = 2048,
     OMH_STACK_ALL_ANSWERS = 2048,
     OMH_STACK_FILL = 2048,
     OMH_STACK_BOUND = 512,
-    OMH_STACK_LIST = 49152,     /* a table among them */
-    OMH_STACK_REFUSED = 1024    /* omh_list, for a file that is refused */
+    OMH_STACK_OUTCOME_START = 512,
+    OMH_STACK_OUTCOME_SET = 2048,
+    OMH_STACK_LIST = 49152,             /* a table among them */
+    OMH_STACK_REFUSED = 1024            /* omh_list, for a file that is refused */
 };
 
 /* Refusal numbers, each with when it is given. */
@@ -198,6 +207,23 @@ uint8_t omh_held_answer(const int32_t *words, size_t words_len,
                         const int32_t *votes, size_t votes_len,
                         int32_t *answer);
 
+/* ---- the long list: a book for each sender, one after the other, its 1,111
+   words and then its 1,111 votes; the held answer of t is omh_held_answer over
+   the two lists from OMH_BOOK * t on. No call touches another book than t's. */
+
+/* Opens the book of t. 1, 2, 3, 4, 5 */
+uint8_t omh_books_open(size_t n, size_t m, size_t t, size_t p,
+                       int32_t *books, size_t books_len);
+
+/* Enters a word in the book of t. 1, 2, 3, 4, 5, 8 */
+uint8_t omh_books_enter(size_t n, size_t m, size_t t, size_t p,
+                        int32_t *books, size_t books_len,
+                        size_t slot, int32_t word);
+
+/* Refills the book of t. 1, 2, 3, 4, 5 */
+uint8_t omh_books_refill(size_t n, size_t m, size_t t, size_t p,
+                         int32_t *books, size_t books_len);
+
 /* ---- frames */
 
 /* The number after x; 0 after 65,535. */
@@ -226,6 +252,13 @@ uint8_t omh_enter_frame(size_t n, size_t m, size_t t, size_t p,
                         int32_t *votes, size_t votes_len,
                         uint16_t current,
                         const uint8_t *frame, size_t frame_len);
+
+/* The same in the long list; a frame of another sender than t is refused.
+   1, 2, 3, 4, 5, 9, 10, 11, 14, 12, 13, 15, 8 */
+uint8_t omh_books_enter_frame(size_t n, size_t m, size_t t, size_t p,
+                              int32_t *books, size_t books_len,
+                              uint16_t current,
+                              const uint8_t *frame, size_t frame_len);
 
 /* ---- the bench: OMH_CARDS status bytes and a table of OMH_TABLE words */
 
@@ -259,6 +292,19 @@ uint8_t omh_fill(size_t n, size_t m, size_t t, int32_t x,
 uint8_t omh_bound(size_t n, size_t m,
                   const uint8_t *statuses, size_t statuses_len,
                   int32_t *held);
+
+/* ---- the outcome of exchanges: OMH_OUTCOME words, a row for each sender and
+   in it a word for each card */
+
+/* Sets every word to OMH_E. 5 */
+uint8_t omh_outcome_start(int32_t *outcome, size_t outcome_len);
+
+/* Sets the row of t to the answers of the n cards, and OMH_E from card n up;
+   every other row is untouched. 1, 2, 3, 5, 7, 6 */
+uint8_t omh_outcome_set(size_t n, size_t m, size_t t, int32_t x,
+                        const uint8_t *statuses, size_t statuses_len,
+                        const int32_t *table, size_t table_len,
+                        int32_t *outcome, size_t outcome_len);
 
 /* ---- listing */
 

@@ -23,6 +23,7 @@ const char *function_name(enum function function)
 #define WORD_LIST(k) WORDS(k), r->block[k].length
 #define SETTINGS r->numbers[0], r->numbers[1], r->numbers[2], r->numbers[3]
 #define BOOK WORD_LIST(0), WORD_LIST(1)
+#define BOOKS WORD_LIST(0)
 #define EXCHANGE r->numbers[0], r->numbers[1], r->numbers[2], NUMBER(int32_t, 3), BYTE_LIST(0), WORD_LIST(1)
 
 uint64_t call(const struct request *r)
@@ -54,6 +55,12 @@ uint64_t call(const struct request *r)
         return omh_refill(SETTINGS, BOOK);
     case CALL_omh_held_answer:
         return omh_held_answer(BOOK, WORDS(2));
+    case CALL_omh_books_open:
+        return omh_books_open(SETTINGS, BOOKS);
+    case CALL_omh_books_enter:
+        return omh_books_enter(SETTINGS, BOOKS, r->numbers[4], NUMBER(int32_t, 5));
+    case CALL_omh_books_refill:
+        return omh_books_refill(SETTINGS, BOOKS);
     case CALL_omh_next_exchange:
         return omh_next_exchange(NUMBER(uint16_t, 0));
     case CALL_omh_age:
@@ -68,6 +75,8 @@ uint64_t call(const struct request *r)
                                BYTE_LIST(0));
     case CALL_omh_enter_frame:
         return omh_enter_frame(SETTINGS, BOOK, NUMBER(uint16_t, 4), BYTE_LIST(2));
+    case CALL_omh_books_enter_frame:
+        return omh_books_enter_frame(SETTINGS, BOOKS, NUMBER(uint16_t, 4), BYTE_LIST(1));
     case CALL_omh_word_for:
         return omh_word_for(EXCHANGE, r->numbers[4], r->numbers[5], WORDS(2));
     case CALL_omh_answer_for:
@@ -78,6 +87,10 @@ uint64_t call(const struct request *r)
         return omh_fill(EXCHANGE, r->numbers[4], WORD_LIST(2), WORD_LIST(3));
     case CALL_omh_bound:
         return omh_bound(r->numbers[0], r->numbers[1], BYTE_LIST(0), WORDS(1));
+    case CALL_omh_outcome_start:
+        return omh_outcome_start(WORD_LIST(0));
+    case CALL_omh_outcome_set:
+        return omh_outcome_set(EXCHANGE, WORD_LIST(2));
     case CALL_omh_list:
         return omh_list(BYTE_LIST(0), BYTES(1));
     case FUNCTIONS:

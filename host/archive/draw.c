@@ -11,7 +11,7 @@
 
 enum {
     GUARD = 64,             /* bytes beside a list that a call must leave alone */
-    MOST = OMH_TABLE * sizeof(int32_t) + GUARD,
+    MOST = OMH_BOOKS * sizeof(int32_t) + GUARD,     /* the longest list */
     HEAD = 24,              /* a listing file's bytes before its exceptions, */
     EXCEPTION = 7,          /* of an exception, */
     EXCEPTIONS = 64         /* and how many it may have */
@@ -251,6 +251,40 @@ static void ask_book(void)
         ask_of_book(current);
 }
 
+/* A call on the long list, for one of its books. */
+static void ask_of_books(uint16_t current)
+{
+    s.t = below(s.n);
+    number_settings();
+    switch (below(8)) {
+    case 0:
+        ask(CALL_omh_books_open, 1);
+        break;
+    case 1:
+        ask(CALL_omh_books_refill, 1);
+        break;
+    case 2: case 3: case 4:
+        number(4, current);
+        lend_frame(1, current);
+        ask(CALL_omh_books_enter_frame, 2);
+        break;
+    default:
+        number(4, slot_draw(&s));
+        number_word(5, any_word());
+        ask(CALL_omh_books_enter, 1);
+    }
+}
+
+/* A long list of garbage, every card of its rack the sender in turn. */
+static void ask_books(void)
+{
+    s = settings_draw();
+    lend_words(0, OMH_BOOKS);
+    uint16_t current = (uint16_t)any();
+    for (int i = 0; i < 20; i++)
+        ask_of_books(current);
+}
+
 /* ---- the bench and listing files */
 
 static void put_statuses(uint8_t statuses[OMH_CARDS])
@@ -300,6 +334,23 @@ static void ask_bench(void)
         ask_of_exchange();
 }
 
+/* An outcome of garbage, rows set in it one after the other; and another that starts. */
+static void ask_outcome(void)
+{
+    s = settings_draw();
+    lend_words(0, OMH_OUTCOME);
+    ask(CALL_omh_outcome_start, 1);
+    lend_words(1, OMH_TABLE);
+    lend_words(2, OMH_OUTCOME);
+    for (int i = 0; i < 6; i++) {
+        s.t = below(s.n);
+        put_statuses(lend(0, OMH_CARDS, 1));
+        number_settings();
+        number_word(3, ordinary());
+        ask(CALL_omh_outcome_set, 3);
+    }
+}
+
 static void ask_listing(void)
 {
     s = settings_draw();
@@ -328,7 +379,8 @@ static void ask_listing(void)
 int main(int count, char **arguments)
 {
     static void (*const asks[])(void) = {
-        ask_words, ask_ages, ask_frames, ask_paths, ask_votes, ask_book, ask_bound, ask_bench, ask_listing, ask_listing,
+        ask_words, ask_ages, ask_frames, ask_paths, ask_votes, ask_book, ask_books, ask_bound, ask_bench, ask_outcome,
+        ask_listing, ask_listing,
     };
     static const uint64_t spoiled[] = {0, 50, 20, 8, 3};
     if (count != 3) {

@@ -1,4 +1,4 @@
-/* Document 01, 'The exchange on the bench'. */
+/* Document 01, 'The exchange on the bench'; and the outcome of exchanges. */
 #include "bench.h"
 #include "paths.h"
 #include "peer.h"
@@ -108,19 +108,48 @@ void answer_all(size_t n, size_t m, size_t t, int32_t x,
         answers[p] = instance(words[p], relaying(n, t, p), t == p ? 0 : m, 0, 0);
 }
 
+/* 1, 2, 3, 5 where a length is wrong, 7, 6 */
+static inline uint8_t exchange_refused(size_t n, size_t m, size_t t, int32_t x, const uint8_t *statuses, bool wrong)
+{
+    uint8_t no = sender_refused(n, m, t);
+    if (no)
+        return no;
+    return wrong ? OMH_REFUSED_LONG : values_refused(n, x, statuses);
+}
+
 uint8_t peer_all_answers(size_t n, size_t m, size_t t, int32_t x,
                          const uint8_t *statuses, size_t statuses_len,
                          const int32_t *table, size_t table_len,
                          int32_t *answers, size_t answers_len)
 {
-    uint8_t no = sender_refused(n, m, t);
-    if (no)
-        return no;
-    if (statuses_len != OMH_CARDS || table_len != OMH_TABLE || answers_len != OMH_CARDS)
+    uint8_t no = exchange_refused(n, m, t, x, statuses,
+                                  statuses_len != OMH_CARDS || table_len != OMH_TABLE || answers_len != OMH_CARDS);
+    if (no == 0)
+        answer_all(n, m, t, x, statuses, table, answers);
+    return no;
+}
+
+uint8_t peer_outcome_start(int32_t *outcome, size_t outcome_len)
+{
+    if (outcome_len != OMH_OUTCOME)
         return OMH_REFUSED_LONG;
-    no = values_refused(n, x, statuses);
+    for (size_t i = 0; i < OMH_OUTCOME; i++)
+        outcome[i] = OMH_E;
+    return 0;
+}
+
+uint8_t peer_outcome_set(size_t n, size_t m, size_t t, int32_t x,
+                         const uint8_t *statuses, size_t statuses_len,
+                         const int32_t *table, size_t table_len,
+                         int32_t *outcome, size_t outcome_len)
+{
+    uint8_t no = exchange_refused(n, m, t, x, statuses,
+                                  statuses_len != OMH_CARDS || table_len != OMH_TABLE || outcome_len != OMH_OUTCOME);
     if (no)
         return no;
-    answer_all(n, m, t, x, statuses, table, answers);
+    int32_t *row = outcome + OMH_CARDS * t;
+    answer_all(n, m, t, x, statuses, table, row);
+    for (size_t p = n; p < OMH_CARDS; p++)
+        row[p] = OMH_E;
     return 0;
 }

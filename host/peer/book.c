@@ -1,4 +1,4 @@
-/* Document 01, 'The book'. */
+/* Document 01, 'The book'; each sender's in the long list. */
 #include "book.h"
 #include "paths.h"
 #include "peer.h"
@@ -10,6 +10,26 @@ uint8_t book_refused(size_t n, size_t m, size_t t, size_t p, size_t words_len, s
     if (no == 0 && (words_len != OMH_SLOTS || votes_len != OMH_SLOTS))
         no = OMH_REFUSED_LONG;
     return no;
+}
+
+uint8_t books_refused(size_t n, size_t m, size_t t, size_t p, size_t books_len)
+{
+    uint8_t no = settings_refused(n, m, t, p);
+    if (no == 0 && books_len != OMH_BOOKS)
+        no = OMH_REFUSED_LONG;
+    return no;
+}
+
+uint8_t peer_books_open(size_t n, size_t m, size_t t, size_t p,
+                        int32_t *books, size_t books_len)
+{
+    uint8_t no = books_refused(n, m, t, p, books_len);
+    if (no)
+        return no;
+    int32_t *book = book_words(books, t);
+    for (size_t i = 0; i < OMH_BOOK; i++)
+        book[i] = OMH_E;
+    return 0;
 }
 
 /* The vote at slot k of level d from its word and the held votes of the longer paths. */
@@ -43,6 +63,23 @@ uint8_t book_enter(size_t n, size_t m, size_t t, size_t p,
     return 0;
 }
 
+uint8_t peer_enter(size_t n, size_t m, size_t t, size_t p,
+                   int32_t *words, size_t words_len,
+                   int32_t *votes, size_t votes_len,
+                   size_t slot, int32_t word)
+{
+    uint8_t no = book_refused(n, m, t, p, words_len, votes_len);
+    return no ? no : book_enter(n, m, t, p, words, votes, slot, word);
+}
+
+uint8_t peer_books_enter(size_t n, size_t m, size_t t, size_t p,
+                         int32_t *books, size_t books_len,
+                         size_t slot, int32_t word)
+{
+    uint8_t no = books_refused(n, m, t, p, books_len);
+    return no ? no : book_enter(n, m, t, p, book_words(books, t), book_votes(books, t), slot, word);
+}
+
 /* Re-makes the votes at slot k of level d and at every live slot under it; answers the vote at k. */
 static int32_t refill(const int32_t *words, int32_t *votes, cards members,
                       size_t left, size_t d, size_t k)
@@ -67,5 +104,15 @@ uint8_t peer_refill(size_t n, size_t m, size_t t, size_t p,
     if (no)
         return no;
     refill(words, votes, relaying(n, t, p), t == p ? 0 : m, 0, 0);
+    return 0;
+}
+
+uint8_t peer_books_refill(size_t n, size_t m, size_t t, size_t p,
+                          int32_t *books, size_t books_len)
+{
+    uint8_t no = books_refused(n, m, t, p, books_len);
+    if (no)
+        return no;
+    refill(book_words(books, t), book_votes(books, t), relaying(n, t, p), t == p ? 0 : m, 0, 0);
     return 0;
 }

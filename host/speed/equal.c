@@ -14,12 +14,13 @@ enum { LONGEST = 100, FILE_MOST = 24 + 7 * 66 };
 /* What one call is given and what it leaves; every list has room for one element too many. */
 struct call {
     size_t n, m, t, p, slot;
-    size_t list_len, words_len, votes_len, frame_len, statuses_len, table_len, answers_len, file_len;
+    size_t list_len, words_len, votes_len, books_len, frame_len;
+    size_t statuses_len, table_len, answers_len, outcome_len, file_len;
     int32_t x;
     uint16_t current;
-    int32_t list[LONGEST], words[OMH_SLOTS + 1], votes[OMH_SLOTS + 1], table[OMH_TABLE + 1];
+    int32_t list[LONGEST], words[OMH_SLOTS + 1], votes[OMH_SLOTS + 1], books[OMH_BOOKS + 1], table[OMH_TABLE + 1];
     uint8_t frame[OMH_FRAME + 1], statuses[OMH_CARDS + 1], file[FILE_MOST];
-    int32_t word, answers[OMH_CARDS + 1];
+    int32_t word, answers[OMH_CARDS + 1], outcome[OMH_OUTCOME + 1];
     uint8_t text[OMH_TEXT];
     size_t text_len;
     uint8_t refusal;
@@ -27,6 +28,7 @@ struct call {
 
 #define SETTINGS c->n, c->m, c->t, c->p
 #define BOOK c->words, c->words_len, c->votes, c->votes_len
+#define BOOKS c->books, c->books_len
 #define EXCHANGE c->n, c->m, c->t, c->x, c->statuses, c->statuses_len, c->table, c->table_len
 
 static void majority(const struct version *v, struct call *c)
@@ -39,6 +41,11 @@ static void vote_at(const struct version *v, struct call *c)
     c->refusal = v->vote_at(SETTINGS, c->words, c->words_len, c->slot, &c->word);
 }
 
+static void enter(const struct version *v, struct call *c)
+{
+    c->refusal = v->enter(SETTINGS, BOOK, c->slot, c->word);
+}
+
 static void refill(const struct version *v, struct call *c)
 {
     c->refusal = v->refill(SETTINGS, BOOK);
@@ -47,6 +54,26 @@ static void refill(const struct version *v, struct call *c)
 static void enter_frame(const struct version *v, struct call *c)
 {
     c->refusal = v->enter_frame(SETTINGS, BOOK, c->current, c->frame, c->frame_len);
+}
+
+static void books_open(const struct version *v, struct call *c)
+{
+    c->refusal = v->books_open(SETTINGS, BOOKS);
+}
+
+static void books_enter(const struct version *v, struct call *c)
+{
+    c->refusal = v->books_enter(SETTINGS, BOOKS, c->slot, c->word);
+}
+
+static void books_refill(const struct version *v, struct call *c)
+{
+    c->refusal = v->books_refill(SETTINGS, BOOKS);
+}
+
+static void books_enter_frame(const struct version *v, struct call *c)
+{
+    c->refusal = v->books_enter_frame(SETTINGS, BOOKS, c->current, c->frame, c->frame_len);
 }
 
 static void answer_for(const struct version *v, struct call *c)
@@ -59,14 +86,24 @@ static void all_answers(const struct version *v, struct call *c)
     c->refusal = v->all_answers(EXCHANGE, c->answers, c->answers_len);
 }
 
+static void outcome_start(const struct version *v, struct call *c)
+{
+    c->refusal = v->outcome_start(c->outcome, c->outcome_len);
+}
+
+static void outcome_set(const struct version *v, struct call *c)
+{
+    c->refusal = v->outcome_set(EXCHANGE, c->outcome, c->outcome_len);
+}
+
 static void list(const struct version *v, struct call *c)
 {
     c->text_len = v->list(c->file, c->file_len, c->text);
 }
 
+#define NAMED(prefix, function) {#function, function},
 static const struct { const char *name; void (*make)(const struct version *, struct call *); } functions[] = {
-    {"majority", majority}, {"vote_at", vote_at}, {"refill", refill}, {"enter_frame", enter_frame},
-    {"answer_for", answer_for}, {"all_answers", all_answers}, {"list", list},
+    COMPARED(NAMED, )
 };
 
 /* Whether to spoil one thing: seldom, so that most calls are not refused. */
@@ -122,6 +159,8 @@ static void some_exchange(struct call *c)
     c->statuses_len = length(OMH_CARDS);
     c->table_len = length(OMH_TABLE);
     c->answers_len = length(OMH_CARDS);
+    some_words(c->outcome, OMH_OUTCOME + 1);
+    c->outcome_len = length(OMH_OUTCOME);
 }
 
 static void some_frame(struct call *c)
@@ -169,12 +208,15 @@ static void some_file(struct call *c)
 static void some_call(struct call *c)
 {
     some_settings(c);
+    some_words(&c->word, 1);
     c->list_len = below(3) ? below(12) : below(LONGEST + 1);
     some_words(c->list, LONGEST);
     some_words(c->words, OMH_SLOTS + 1);
     some_words(c->votes, OMH_SLOTS + 1);
     c->words_len = length(OMH_SLOTS);
     c->votes_len = length(OMH_SLOTS);
+    some_words(c->books, OMH_BOOKS + 1);
+    c->books_len = length(OMH_BOOKS);
     some_exchange(c);
     some_frame(c);
     some_file(c);
@@ -190,7 +232,7 @@ static void print_difference(const char *name, const struct call *c)
 
 int main(int argc, char **argv)
 {
-    static const struct version omh = VERSION(omh), peer = VERSION(peer);
+    static const struct version omh = VERSION(omh, COMPARED), peer = VERSION(peer, COMPARED);
     static struct call given, left, right;
     size_t count = argc == 2 ? strtoul(argv[1], NULL, 10) : 0, compared = 0, refused = 0;
     for (size_t i = 0; i < count; i++) {

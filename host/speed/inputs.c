@@ -4,6 +4,7 @@
 #include <stdio.h>
 #include <string.h>
 
+#include "../peer/paths.h"
 #include "../peer/peer.h"
 #include "numbers.h"
 
@@ -13,7 +14,7 @@ static int32_t some_word(bool mixed)
     return mixed ? words[below(8)] : -120;
 }
 
-/* A frame at level m: its relays are the first m cards after p, round, that are not t. */
+/* A frame at level m, with its slot and word: its relays are the first m cards after p, round, that are not t. */
 static void make_frame(struct input *in, int32_t word)
 {
     uint8_t *at = put_bytes(in->frame, "OMH", 3);
@@ -22,14 +23,18 @@ static void make_frame(struct input *in, int32_t word)
     at = put(at, in->t, 1);
     at = put(at, in->m, 1);
     size_t q = in->p;
+    in->slot = 0;
     for (size_t i = 0; i < OMH_ROUNDS; i++) {
         do
             q = (q + 1) % in->n;
         while (q == in->t);
         at = put(at, i < in->m ? q : 255, 1);
+        if (i < in->m)
+            in->slot = longer(in->slot) + q;
     }
     at = put(at, in->p, 1);
     put(at, (uint32_t)word, 4);
+    in->told = word;
 }
 
 static void make_file(struct input *in)
@@ -67,21 +72,28 @@ static void make_input(struct input *in, size_t i, size_t n, size_t m, bool mixe
         in->table[k] = some_word(mixed);
     make_file(in);
     peer_refill(n, m, in->t, in->p, in->words, OMH_SLOTS, in->votes, OMH_SLOTS);
+    for (int32_t *book = in->books; book < in->books + OMH_BOOKS; book += OMH_BOOK) {
+        memcpy(book, in->words, sizeof in->words);
+        memcpy(book + OMH_SLOTS, in->votes, sizeof in->votes);
+    }
 }
 
 bool make_inputs(const char *name, enum kind *kind, struct input inputs[INPUTS])
 {
-    static const char *const kinds[] = {"majority", "vote", "refill", "enter", "answer", "answers", "list"};
-    char kind_name[10], words[10];
+    static const char *const kinds[KINDS] = {
+        "majority", "vote", "word", "enter", "refill", "longword", "longenter", "longrefill", "answer", "answers", "row",
+        "list",
+    };
+    char kind_name[12], words[10];
     size_t n, m;
-    if (sscanf(name, "%9[a-z]-%zu-%zu-%9s", kind_name, &n, &m, words) != 4 || n < 2 || n > OMH_CARDS)
+    if (sscanf(name, "%11[a-z]-%zu-%zu-%9s", kind_name, &n, &m, words) != 4 || n < 2 || n > OMH_CARDS)
         return false;
     bool mixed = strcmp(words, "mixed") == 0;
     if (!mixed && strcmp(words, "agreeing") != 0)
         return false;
     for (size_t i = 0; i < INPUTS; i++)
         make_input(&inputs[i], i, n, m, mixed);
-    for (*kind = MAJORITY; *kind <= LIST; ++*kind)
+    for (*kind = MAJORITY; *kind < KINDS; ++*kind)
         if (strcmp(kind_name, kinds[*kind]) == 0)
             return true;
     return false;

@@ -4,8 +4,13 @@
 
 int32_t none_majority() { return 0; }
 uint8_t none_vote_at() { return 0; }
+uint8_t none_enter() { return 0; }
 uint8_t none_refill() { return 0; }
 uint8_t none_enter_frame() { return 0; }
+uint8_t none_books_enter() { return 0; }
+uint8_t none_books_refill() { return 0; }
+uint8_t none_books_enter_frame() { return 0; }
 uint8_t none_answer_for() { return 0; }
 uint8_t none_all_answers() { return 0; }
+uint8_t none_outcome_set() { return 0; }
 size_t none_list() { return 0; }

@@ -1,7 +1,7 @@
 /*
  * speed CASE COUNT VERSION: makes COUNT calls of a case with one version of the functions.
  * speed CASE COUNT ratio: prints the CPU time of the library over that of plain C.
- * A case is KIND-N-M-WORDS: a kind of inputs.h in small letters, N cards (for a majority, N words) and
+ * A case is KIND-N-M-WORDS: a kind of inputs.h in small letters alone, N cards (for a majority, N words) and
  * M rounds, WORDS agreeing or mixed.
  */
 #include <stdio.h>
@@ -14,7 +14,9 @@
 
 enum { OMH, PEER, SECOND, NONE, VERSIONS };
 
-static const struct version versions[VERSIONS] = {VERSION(omh), VERSION(peer), VERSION(second), VERSION(none)};
+static const struct version versions[VERSIONS] = {
+    VERSION(omh, MEASURED), VERSION(peer, MEASURED), VERSION(second, MEASURED), VERSION(none, MEASURED),
+};
 
 /* Rounds of blocks for the ratio of times. */
 enum { ROUNDS = 15 };
@@ -27,6 +29,7 @@ static void usage(void)
 
 #define SETTINGS in->n, in->m, in->t, in->p
 #define BOOK in->words, OMH_SLOTS, in->votes, OMH_SLOTS
+#define BOOKS in->books, OMH_BOOKS
 #define EXCHANGE in->n, in->m, in->t, in->x, in->statuses, OMH_CARDS, in->table, OMH_TABLE
 
 /* Answers 0 unless the call is refused. */
@@ -38,17 +41,29 @@ static int call(const struct version *v, enum kind kind, struct input *in)
         return 0;
     case VOTE:
         return v->vote_at(SETTINGS, in->words, OMH_SLOTS, 0, &in->word);
-    case REFILL:
-        return v->refill(SETTINGS, BOOK);
+    case WORD:
+        return v->enter(SETTINGS, BOOK, in->slot, in->told);
     case ENTER:
         return v->enter_frame(SETTINGS, BOOK, in->current, in->frame, OMH_FRAME);
+    case REFILL:
+        return v->refill(SETTINGS, BOOK);
+    case LONG_WORD:
+        return v->books_enter(SETTINGS, BOOKS, in->slot, in->told);
+    case LONG_ENTER:
+        return v->books_enter_frame(SETTINGS, BOOKS, in->current, in->frame, OMH_FRAME);
+    case LONG_REFILL:
+        return v->books_refill(SETTINGS, BOOKS);
     case ANSWER:
         return v->answer_for(EXCHANGE, in->p, &in->word);
     case ANSWERS:
         return v->all_answers(EXCHANGE, in->answers, OMH_CARDS);
+    case ROW:
+        return v->outcome_set(EXCHANGE, in->outcome, OMH_OUTCOME);
     case LIST:
         v->list(in->file, sizeof in->file, in->text);
         return in->text[0] == 'r';
+    case KINDS:
+        break;
     }
     return 1;
 }
@@ -107,7 +122,7 @@ int main(int argc, char **argv)
         return 0;
     }
     for (size_t i = 0; i < VERSIONS; i++)
-        if (strcmp(argv[3], versions[i].name) == 0) {
+        if (strcmp(argv[3], versions[i].prefix) == 0) {
             run(&versions[i], kind, inputs, count);
             return 0;
         }

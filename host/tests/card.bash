@@ -75,34 +75,42 @@ gives 'the sender receives no relays' 1 $'answer -\nrefused 8 line 1 path 3 1: c
 gives 'a garbled line alone, without its LF' 1 $'answer -\ngarbled line 1 column 3: the byte 00 is no hex digit\n' \
     "$bench" card 4 1 0 3 < <(printf '4F\0')
 
-# What a book of n 4, m 1, t 0, p 3 at exchange 257 makes of 17 bytes, written here again.
-entering() { # LINE BYTE.. as numbers
-    local fields age exchange sender level q1 receiver
+# What card 3 of n 4, m 1 at exchange 257, with a book for the senders below this number, makes of 17 bytes, written here again.
+entering() { # SENDERS LINE BYTE.. as numbers
+    local senders=$1 fields age exchange sender level q1 receiver
+    shift
     fields=$(reading "${@:2}")
     [[ $fields == EXCHANGE* ]] || { refusal "$fields" "$@"; return; }
     read -r _ exchange _ sender _ level _ q1 _ _ _ _ _ receiver _ <<<"${fields//$'\n'/ }"
     age=$(((257 - exchange) & 65535))
     if ((age > 0)); then
         refusal $((age < 32768 ? 12 : 13)) "$@"
-    elif ((sender != 0 || receiver != 3)); then
+    elif ((sender >= senders || receiver != 3)); then
         refusal 15 "$@"
-    elif ((level > 1 || (level == 1 && (q1 == 0 || q1 >= 3)))); then
+    elif ((level > 1 || (level == 1 && (sender == 3 || q1 == sender || q1 >= 3)))); then
         refusal 8 "$@"
     else
         echo accepted
     fi
 }
 
-due='' line=0
+due='' due_all='' line=0
 while read -r -a numbers; do
     line=$((line + 1))
-    due+=$(entering "$line" "${numbers[@]}")$'\n'
+    due+=$(entering 1 "$line" "${numbers[@]}")$'\n'
+    due_all+=$(entering 4 "$line" "${numbers[@]}")$'\n'
     printf '%02X' "${numbers[@]}"
     echo
 done < <(damaged 4F4D4800010101000102FFFF0300000005) >"$scratch/damaged"
+# What a card makes of them, without the answers and the reasons.
+damaged_for() { # T
+    "$bench" card 4 1 "$1" 3 257 <"$scratch/damaged" | sed '/^answer/d; s/: .*//'
+    echo "status ${PIPESTATUS[0]}"
+}
 match 'damaged frames, some of which are accepted' *accepted*$'\n' "$due"
-equal 'damaged frames' "${due}status 1" \
-    "$("$bench" card 4 1 0 3 257 <"$scratch/damaged" | sed '/^answer/d; s/: .*//'; echo "status ${PIPESTATUS[0]}")"
+equal 'damaged frames' "${due}status 1" "$(damaged_for 0)"
+equal 'damaged frames for all books' "${due_all}status 1" "$(damaged_for all)"
+equal 'damaged frames of which another book takes one' yes "$([[ $due != "$due_all" ]] && echo yes)"
 
 refused 'no card' '1: N is 0, not 1 to 10' '' "$bench" card 0 0 0 0 </dev/null
 refused 'eleven cards' '1: N is 11, not 1 to 10' '' "$bench" card 11 0 0 0 </dev/null
@@ -112,11 +120,14 @@ refused 'a sender that is not there' '3: T is 4, not below N, which is 4' '' "$b
 refused 'an own card that is not there' '4: P is 18446744073709551615, not below N, which is 4' '' \
     "$bench" card 4 1 0 18446744073709551615 </dev/null
 
-misused 'card with three numbers' 'card takes four or five arguments: N M T P \[EXCHANGE\]' "$bench" card 4 1 0
+misused 'card with three numbers' 'card takes four or five arguments: N M T P \[EXCHANGE\] or N M all P \[EXCHANGE\]' \
+    "$bench" card 4 1 0
 misused 'card with six numbers' 'card takes four or five arguments: *' "$bench" card 4 1 0 3 0 0
 misused 'N is no number' "N is a number from 0 to *, not 'four'" "$bench" card four 1 0 3
 misused 'M is negative' "M is a number from 0 to *, not '-1'" "$bench" card 4 -1 0 3
 misused 'T is too large' "T is a number from 0 to *, not '18446744073709551616'" "$bench" card 4 1 18446744073709551616 3
+misused 'another word than all' "T is a number from 0 to *, not 'ALL'" "$bench" card 4 1 ALL 3
+misused 'P is all' "P is a number from 0 to *, not 'all'" "$bench" card 4 1 0 all
 misused 'P is empty' "P is a number from 0 to *, not ''" "$bench" card 4 1 0 ''
 misused 'an option of a card' "card has no option '--exchange'" "$bench" card 4 1 0 3 --exchange 5
 gives 'leading zeros' 0 $'answer -\n' "$bench" card 04 001 00 03 00000000000000000000007 </dev/null
@@ -160,3 +171,89 @@ done <"$scratch/agree"
 exec {to}>&- {from}<&-
 wait $!
 equal 'answers are not held back' 'answer - accepted answer 30 accepted answer - accepted ' "$said"
+
+# ---- all books
+
+# A frame of exchange 0 for card 3, in hex.
+frame_of() { # SENDER LEVEL Q1 WORD
+    "$bench" frame make 0 "$1" "$2" "$3" - - 3 "$4"
+}
+
+gives 'all books and no frame' 0 '' "$bench" card 4 1 all 3 </dev/null
+says 'all books and no frame' ''
+
+# Document 01's two cases again, by the senders 0 and 2 in turn, and the card's own word; sender 1 is not heard.
+{
+    frame_of 0 0 - 30; frame_of 2 0 - 30; frame_of 3 0 - -7
+    frame_of 0 1 1 10; frame_of 2 1 0 10
+    frame_of 0 1 2 20; frame_of 2 1 1 10; frame_of 0 1 2 20
+} >"$scratch/turns"
+turns=$'accepted\nanswer 0 30\naccepted\nanswer 2 30\naccepted\nanswer 3 -7\n'
+turns+=$'accepted\nanswer 0 -\naccepted\nanswer 2 -\naccepted\naccepted\nanswer 2 10\naccepted\n'
+gives 'senders in turn' 0 "$turns" "$bench" card 4 1 all 3 <"$scratch/turns"
+says 'senders in turn' ''
+gives 'senders in turn, from a slow pipe, in little memory' 0 "$turns" small card 4 1 all 3 0 < <(slowly <"$scratch/turns")
+gives 'frames one after the other, as the help shows' 0 $'accepted\nanswer 0 30\naccepted\nanswer 1 45\n' \
+    bash -c "$("$bench" card --help | sed -n '/^  { bench/,/^      bench/p' | sed 's|bench |"$0" |g')" "$bench"
+
+# Among all books each is as it would be alone: words of every kind, on all paths of two rounds, in an order that goes through the senders.
+words=(30 -5 30 - 1000000001 30 -5 2000000000 30 7 30)
+for i in {0..99}; do
+    t=$((i % 5)) q1=$((i / 5 % 5)) q2=$((i / 7 % 5)) word=${words[i % 11]}
+    case $((i % 3)) in
+        0) "$bench" frame make 9 $t 0 - - - 4 "$word" ;;
+        1) "$bench" frame make 9 $t 1 $q1 - - 4 "$word" ;;
+        2) "$bench" frame make 9 $t 2 $q1 $q2 - 4 "$word" ;;
+    esac
+done >"$scratch/mixed"
+told=$("$bench" card 5 2 all 4 9 <"$scratch/mixed")
+for t in {0..4}; do
+    alone=$(grep -i "^.\{14\}0$t" "$scratch/mixed" | "$bench" card 5 2 $t 4 9 | sed -n "2,\$s/^answer /answer $t /p")
+    match "sender $t has answers" "answer $t *"$'\n'* "$alone"
+    equal "the answers of sender $t among all" "$alone" "$(grep "^answer $t " <<<"$told")"
+done
+
+# Every sender of ten has an opened book: its word alone is the answer, for the first card and for the last.
+for p in 0 9; do
+    for t in {0..9}; do "$bench" frame make 65535 $t 0 - - - $p $((t - 5)); done >"$scratch/ten"
+    gives "ten senders tell card $p" 0 "$(for t in {0..9}; do printf 'accepted\nanswer %s %s\n' $t $((t - 5)); done)"$'\n' \
+        "$bench" card 10 3 all $p 65535 <"$scratch/ten"
+done
+
+gives 'frames that all books refuse' 1 "refused 9 line 1: the frame's length is 8, not 17 bytes
+refused 10 line 2: the mark is 4F4D58, not 4F4D48
+refused 11 line 3: the version is 2, not 1
+refused 14 line 4 path 10: SENDER is 10, over 9
+refused 12 line 5 path 4: EXCHANGE is 65535, old by 1: the current is 0
+refused 13 line 6 path 4: EXCHANGE is 1, ahead by 1: the current is 0
+refused 15 line 7 path 4: SENDER is 4, and the last card is 3
+refused 15 line 8 path 9 4: SENDER is 9, and the last card is 3
+refused 15 line 9 path 2: RECEIVER is 2, the book's is 3
+refused 8 line 10 path 2 2: card 2 relays, and is the sender
+refused 8 line 11 path 3 1: card 3 is the sender, and receives no relays
+garbled line 12 column 5: a byte has two hex digits, here is one
+accepted
+answer 2 30
+" "$bench" card 4 1 all 3 <<'FRAMES'
+4F4D48 0001 0000 02
+4F4D58 0001 0000 02 00 FFFFFF 03 0000001E
+4F4D48 0002 0000 02 00 FFFFFF 03 0000001E
+4F4D48 0001 0000 0A 00 FFFFFF 03 0000001E
+4F4D48 0001 FFFF 04 00 FFFFFF 03 0000001E
+4F4D48 0001 0001 04 00 FFFFFF 03 0000001E
+4F4D48 0001 0000 04 00 FFFFFF 03 0000001E
+4F4D48 0001 0000 09 01 04FFFF 02 0000001E
+4F4D48 0001 0000 02 00 FFFFFF 02 0000001E
+4F4D48 0001 0000 02 01 02FFFF 03 0000001E
+4F4D48 0001 0000 03 01 01FFFF 03 0000001E
+4F4D4
+4F4D48 0001 0000 02 00 FFFFFF 03 0000001E
+FRAMES
+says 'frames that all books refuse' ''
+refused 'a sender that is no card of the rack' '15 line 1 path 4: SENDER is 4, and the last card is 3' $'answer -\n' \
+    "$bench" card 4 1 0 3 <<<'4F4D48 0001 0000 04 00 FFFFFF 03 0000001E'
+
+refused 'all books of no card' '1: N is 0, not 1 to 10' '' "$bench" card 0 0 all 0 </dev/null
+refused 'all books of eleven cards' '1: N is 11, not 1 to 10' '' "$bench" card 11 0 all 0 </dev/null
+refused 'all books, four rounds' '2: M is 4, over 3' '' "$bench" card 10 4 all 0 </dev/null
+refused 'all books of a card that is not there' '4: P is 4, not below N, which is 4' '' "$bench" card 4 1 all 4 </dev/null

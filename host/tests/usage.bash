@@ -14,13 +14,14 @@ helps() { # FIRST-LINE COMMAND..
 
 helps 'usage: bench COMMAND *' --help
 helps 'usage: bench list FILE' list --help
+helps 'usage: bench outcome FILE..' outcome --help
 helps 'usage: bench frame make EXCHANGE SENDER LEVEL Q1 Q2 Q3 RECEIVER WORD' frame --help
 helps 'usage: bench frame make EXCHANGE SENDER LEVEL Q1 Q2 Q3 RECEIVER WORD' frame make --help
 helps 'usage: bench frame make EXCHANGE SENDER LEVEL Q1 Q2 Q3 RECEIVER WORD' frame show 4F --help
-helps 'usage: bench card N M T P \[EXCHANGE\]' card --help
+helps $'usage: bench card N M T P \\[EXCHANGE\\]\n       bench card N M all P \\[EXCHANGE\\]' card --help
 helps 'usage: bench soak \[--seed S\] \[--count C\] \[--first F\] \[--progress\]' soak --help
 helps 'usage: bench soak *' soak --count 5 --help
-for command in list frame card soak; do
+for command in list outcome frame card soak; do
     match "bench --help names $command" *$'\n'"  $command "* "$("$bench" --help)"
 done
 

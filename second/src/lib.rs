@@ -1,15 +1,18 @@
 //! Domewhistle's second program: the rules of document 01, "Build scope and its precise
-//! rules", written again from the document alone, so that outcomes can be compared.
+//! rules", and of document 02's request Q-1, "Every card is sender in turn", written again
+//! from the documents alone, so that outcomes can be compared.
 //!
-//! There is one module for each part of the document. A refusal is its number alone, as
-//! the document's table "Refusal numbers" gives it.
+//! There is one module for each part of document 01; `books` and `outcome` are Q-1's. A
+//! refusal is its number alone, as document 01's table "Refusal numbers" gives it.
 
 #![forbid(unsafe_code)]
 
 pub mod book;
+pub mod books;
 pub mod exchange;
 pub mod frames;
 pub mod listing;
+pub mod outcome;
 pub mod paths;
 pub mod vote;
 pub mod words;

@@ -1,26 +1,34 @@
-//! Document 01's section "Worked by hand" and the rules around it, run case by case. The
-//! tables in `cases` are run by the package `linked` too, with both programs.
+//! Document 01's section "Worked by hand" and the rules around it, and document 02's request
+//! Q-1, run case by case. The tables in `cases` are run by the package `linked` too, with
+//! both programs.
 
 mod cases {
+    pub mod books;
     pub mod exchanges;
     pub mod frames;
+    pub mod given;
     pub mod listings;
+    pub mod outcomes;
     pub mod paths;
     pub mod slots;
     pub mod votes;
     pub mod words;
 }
 
+use cases::books::{hold_long_lists, Call};
 use cases::exchanges::{hold_books, hold_exchanges};
 use cases::frames::{hold_ages, hold_reading, hold_writing};
 use cases::listings::{bytes_of, hold_listings, EXAMPLE, EXAMPLE_LISTING};
+use cases::outcomes::hold_outcomes;
 use cases::slots::{hold_live, hold_slots};
 use cases::votes::hold_votes;
 use cases::words::{hold_majorities, hold_words, WORDS};
 use second::book;
+use second::books::{self, BOOKS};
 use second::exchange::{self, bound_holds, Exchange, PLACES};
 use second::frames::{self, age, age_class, next_exchange, AgeClass, Record};
 use second::listing::listing;
+use second::outcome;
 use second::paths::{live, path_at, slot_above, slot_of, slot_of_path, Settings, SLOTS};
 use second::vote;
 use second::words::{kind, majority, read_at, unwrap, wrap, Kind, E};
@@ -715,6 +723,123 @@ fn the_bench_refuses_lists_of_another_length() {
     }
 }
 
+// Every card is sender in turn
+
+/// Makes a call on a long list.
+fn call_books(s: Settings, call: Call, books: &mut [i32]) -> Result<(), u8> {
+    match call {
+        Call::Open => books::open(s, books),
+        Call::Enter(slot, word) => books::enter(s, books, slot, word),
+        Call::EnterFrame(current, frame) => books::enter_frame(s, books, current, frame),
+        Call::Refill => books::refill(s, books),
+    }
+}
+
+#[test]
+fn worked_long_lists() {
+    assert_eq!(BOOKS, 22_220);
+    hold_long_lists(|s, call, mut books| (call_books(s, call, &mut books), books));
+}
+
+/// Each length but one is refused, that of n books too; the settings are looked at before,
+/// the slot and the frame after.
+#[test]
+fn long_lists_are_refused_in_order_and_left_as_they_were() {
+    let (no_slot, no_frame) = (Call::Enter(usize::MAX, 3), Call::EnterFrame(0, &[]));
+    let calls =
+        [(Call::Open, Ok(())), (Call::Refill, Ok(())), (no_slot, Err(8)), (no_frame, Err(9))];
+    for length in [0, 1, SLOTS, 2 * SLOTS, 8 * SLOTS, BOOKS - 1, BOOKS, BOOKS + 1, 2 * BOOKS] {
+        let fits = length == BOOKS;
+        let mut cases = refused_settings().to_vec();
+        cases.push((5, FOUR));
+        let before = vec![6; length];
+        for (number, s) in cases {
+            for (call, done) in calls {
+                let mut books = before.clone();
+                let outcome = call_books(s, call, &mut books);
+                let expected = if number == 5 && fits { done } else { Err(number) };
+                assert_eq!(outcome, expected, "{length} {s:?} {call:?}");
+                assert!(outcome.is_ok() || books == before, "{length} {s:?} {call:?}");
+            }
+        }
+    }
+}
+
+/// The long list of a mixed run is ten books that are kept one by one.
+#[test]
+fn a_long_list_is_ten_books() {
+    let mut random = Random(21);
+    let mut books = random.words(BOOKS);
+    let mut apart: Vec<(Vec<i32>, Vec<i32>)> =
+        books.chunks(2_222).map(|part| (part[..1_111].to_vec(), part[1_111..].to_vec())).collect();
+    for turn in 0..600 {
+        let s = Settings { n: 10, m: 2, t: random.below(10), p: 4 };
+        let (words, votes) = &mut apart[s.t];
+        let slot = random.below(12);
+        let word = random.word();
+        let outcomes = match turn % 20 {
+            0 => (books::open(s, &mut books), book::open(s, words, votes)),
+            1 => (books::refill(s, &mut books), book::refill(s, words, votes)),
+            _ => {
+                (books::enter(s, &mut books, slot, word), book::enter(s, words, votes, slot, word))
+            }
+        };
+        assert_eq!(outcomes.0, outcomes.1, "{s:?} slot {slot}");
+        let together: Vec<i32> = apart.iter().flat_map(|(w, v)| [&w[..], v].concat()).collect();
+        assert!(books == together, "{s:?} slot {slot}");
+    }
+}
+
+#[test]
+fn worked_outcomes() {
+    assert_eq!(outcome::start().concat(), [E; 100]);
+    hold_outcomes(|e, before| {
+        let mut list = before.to_vec();
+        outcome::set_in_list(e, &mut list).map(|()| list)
+    });
+    hold_outcomes(|e, before| {
+        let rows: Vec<[i32; 10]> = before.chunks(10).map(|row| row.try_into().unwrap()).collect();
+        outcome::set_row(e, rows.try_into().unwrap()).map(|rows| rows.concat())
+    });
+}
+
+#[test]
+fn outcomes_are_refused_in_order_and_left_as_they_were() {
+    let table = table_with(&[]);
+    let good = Exchange { n: 4, m: 1, t: 3, x: 5, statuses: &[0; 10], table: &table };
+    let refused = |e: &Exchange, length: usize, number: u8| {
+        let mut list = vec![9; length];
+        assert_eq!(outcome::set_in_list(e, &mut list), Err(number), "{length} places");
+        assert_eq!(list, vec![9; length]);
+        if length == 100 {
+            assert_eq!(outcome::set_row(e, [[9; 10]; 10]), Err(number));
+        }
+    };
+    for length in [0, 10, 40, 99, 100, 101] {
+        for (number, s) in refused_settings().into_iter().filter(|case| case.0 != 4) {
+            let e = Exchange { n: s.n, m: s.m, t: s.t, x: E, statuses: &[9], table: &[] };
+            refused(&e, length, number);
+        }
+    }
+    let worst = Exchange { x: E, statuses: &[9; 10], ..good };
+    for length in [0, 10, 40, 99, 101] {
+        refused(&worst, length, 5);
+        refused(&good, length, 5);
+        let mut list = vec![9; length];
+        assert_eq!(outcome::start_list(&mut list), Err(5));
+        assert_eq!(list, vec![9; length]);
+    }
+    refused(&Exchange { statuses: &[9; 9], ..worst }, 100, 5);
+    refused(&Exchange { table: &table[1..], ..worst }, 100, 5);
+    refused(&worst, 100, 7);
+    refused(&Exchange { x: E, ..good }, 100, 6);
+    let mut list = [9; 100];
+    assert_eq!(outcome::start_list(&mut list), Ok(()));
+    assert_eq!(list, [E; 100]);
+    assert_eq!(outcome::set_in_list(&good, &mut list), Ok(()));
+    assert_eq!(list[30..34], [5; 4]);
+}
+
 // The listing program
 
 #[test]
@@ -840,7 +965,8 @@ fn listing_any_damaged_file_ends() {
 fn any_numbers_are_answered() {
     let mut random = Random(20);
     let far = [0, 1, 2, 3, 4, 9, 10, 11, 255, 1_110, 1_111, usize::MAX - 1, usize::MAX];
-    let lengths = [0, 1, 9, 10, 11, SLOTS - 1, SLOTS, SLOTS, SLOTS, SLOTS + 1, PLACES];
+    let lengths = [0, 1, 9, 10, 11, 100, SLOTS - 1, SLOTS, SLOTS, SLOTS, SLOTS + 1, PLACES];
+    let mut books = random.words(BOOKS + 1);
     for _ in 0..20_000 {
         let mut number = || far[random.below(far.len())];
         let s = Settings { n: number(), m: number(), t: number(), p: number() };
@@ -857,9 +983,13 @@ fn any_numbers_are_answered() {
         let _ = (slot_of(level, relays), slot_above(slot), path_at(slot));
         let _ = book::held_answer(&words, &votes);
         let _ = book::open(s, &mut words, &mut votes);
+        let length = BOOKS - 1 + random.below(3);
+        let entered = books::enter(s, &mut books[..length], slot, x);
+        assert_eq!(entered.is_ok(), live == Ok(true) && length == BOOKS);
         let e = Exchange { n: s.n, m: s.m, t: s.t, x, statuses: &statuses, table: &table };
         let _ = exchange::word(&e, s.p, slot);
         let _ = exchange::answers(&e, &mut votes);
+        let _ = outcome::set_in_list(&e, &mut words);
         let _ = bound_holds(s.n, s.m, &statuses);
     }
 }

@@ -1,32 +1,34 @@
 -- What entering a frame comes to, check by check; and that a frame which is not refused is its word entered at its path's slot.
 use Prim.Native.Nat.{ℕ, zero, suc, _≤_}
-use mathlib.Core.Path.{_≡_, refl, sym, ap, ap₂, _∙_, subst}
-use mathlib.Core.Bool.{Bool, true, false, _&&_}
-use mathlib.Core.List.{List}
+use mathlib.Core.Path.{_≡_, refl, sym, ap, _∙_, subst}
+use mathlib.Core.Bool.{Bool, true, false, not, _&&_}
+use mathlib.Core.List.{List, [], _∷_, _++_}
 use native.Mathlib.Omega.{arith}
 use lib.Dec.{T, eqb, ltb, leb, leb→le}
-use lib.IntN.{ℤ}
-use borrow.Author.Tests.{le-leb, lt-ltb}
-use Rattle.ground.specs.Checks.{verdict, next}
+use borrow.Author.Tests.{le-leb, lt-ltb, not-false}
+use Rattle.ground.specs.Refusal as refusal
+use Rattle.ground.specs.Checks.{Check, check, verdict, next}
 use Rattle.ground.specs.Answer.{Answer, value, refused, Outcome, outcome, outcomeBy}
 use Rattle.ground.specs.Lists.{all}
 use Rattle.ground.proofs.Bools.{and-left, and-right}
-use Rattle.ground.proofs.Verdicts.{joined, rest-decides, first-decides, still-refused, same-first}
+use Rattle.ground.proofs.Verdicts.{proper, no-verdict, verdict-append, joined, rest-decides, first-decides, still-refused}
 use Rattle.ground.proofs.Answers.{outcome-refused, value-verdict, refused-verdict}
 use Rattle.settings.specs.declared.Settings.{Settings}
-use Rattle.paths.specs.Asked.{used, slotAsked}
+use Rattle.paths.specs.Slots.{live}
+use Rattle.paths.specs.Asked.{used, pathChecks, slotAsked}
 use Rattle.paths.proofs.Asking.{slot-good}
 use Rattle.vote.specs.Vote.{ruleOf}
 use Rattle.book.specs.Book.{Book}
 use Rattle.book.specs.Asked.{bookChecks}
 use Rattle.entering.specs.Entered.{entered}
+use Rattle.entering.specs.Run.{Entry}
 use Rattle.entering.specs.Asked.{enterAsked}
 use Rattle.ages.specs.Ages.{ageOf, classOf}
 use Rattle.frames.specs.Frame.{frameOf, relayFormed, wellFormed}
-use Rattle.frames.specs.Asked.{readChecks, readAsked}
+use Rattle.frames.specs.Asked.{readChecks}
 use Rattle.frames.specs.declared.Frame.{Frame}
 use Rattle.ages.specs.declared.Age.the-variants.{Current, Old, Ahead}
-use Rattle.arrivals.specs.Entry.{frameSlot, timelyChecks, frameChecks, frameAsked}
+use Rattle.arrivals.specs.Entry.{frameSlot, timelyChecks, frameChecks, frameEntry, entryChecks, entryAsked, frameAsked}
 
 -- ---- a well formed frame has a slot
 
@@ -57,12 +59,10 @@ module _ (f : Frame) (w : wellFormed f ≡ true) where
       let t = last-four (leb (f .sender) 9) (leb (f .receiver) 9) (leb (f .level) 3) (relayFormed (f .level) 1 (f .q1)) (relayFormed (f .level) 2 (f .q2)) (relayFormed (f .level) 3 (f .q3)) (subst T (sym w) tt) in
       slot-good (f .level) (f .q1) (f .q2) (f .q3) (leb→le (f .level) 3 (t .0)) (relays-small (f .level) (f .q1) (f .q2) (f .q3) (t .1) (t .2) (t .3))
 
-  pub slot-is : {k : ℕ} → slotAsked (f .level) (f .q1) (f .q2) (f .q3) ≡ value k → k ≡ frameSlot f
-  slot-is e = cc (slot-formed)
-
-  -- it is never refused
-  pub slot-given : {no : ℕ} → slotAsked (f .level) (f .q1) (f .q2) (f .q3) ≡ refused no → ⊥
-  slot-given e = let z : _≡_ {A = ℕ} 0 1 = cc (slot-formed) in omega arith
+  -- so its record has a path
+  path-formed : verdict (pathChecks (f .level) (f .q1) (f .q2) (f .q3)) ≡ 0
+  unfolding slotAsked
+  path-formed = value-verdict _ _ slot-formed .0
 
 -- ---- old, ahead, another book's
 
@@ -85,49 +85,67 @@ module _ (s : Settings) (current : ℕ) (f : Frame) where
 
 -- ---- the verdict on a frame by itself
 
-module _ (s : Settings) (current : ℕ) (bytes : List ℕ) where
-  -- bytes that do not read are refused with that number
-  pub by-reading : {no : ℕ} → readAsked bytes ≡ refused no → (no ≡ verdict (frameChecks s current bytes)) × (no ≡ 0 → ⊥)
-  unfolding readAsked
-  by-reading {no} e =
-      let v = refused-verdict (frameOf bytes) (verdict (readChecks bytes)) e in
-      let n : no ≡ 0 → ⊥ = λ z. v .1 (v .0 ∙ z) in
-      (still-refused (readChecks bytes) _ tt (sym (v .0)) n, n)
+module _ (s : Settings) (current : ℕ) (bytes : List ℕ) (reads : verdict (readChecks bytes) ≡ 0) where
+  -- bytes that read are a well formed record
+  formed : wellFormed (frameOf bytes) ≡ true
+  formed = not-false _ (no-verdict (readChecks bytes) tt reads .1 .1 .1 .0)
 
-  -- of bytes that read, the record decides
-  pub by-record : {f : Frame} → readAsked bytes ≡ value f → verdict (frameChecks s current bytes) ≡ verdict (timelyChecks s current f)
-  unfolding readAsked
-  by-record e =
-      let v = value-verdict (frameOf bytes) (verdict (readChecks bytes)) e in
-      rest-decides (readChecks bytes) _ tt (v .0) ∙ ap (λ (f : Frame). verdict (timelyChecks s current f)) (v .1)
+  -- and whether they carry an entry decides
+  by-entry : verdict (entryChecks s current (frameOf bytes)) ≡ verdict (frameChecks s current bytes)
+  by-entry =
+      first-decides (timelyChecks s current (frameOf bytes)) _ tt (path-formed (frameOf bytes) formed)
+      ∙ sym (rest-decides (readChecks bytes) (timelyChecks s current (frameOf bytes)) tt reads)
 
--- ---- the book's checks come before the frame's, and the slot's last
+-- ---- other checks come before the frame's, and the slot's last: whatever memory is lent, and whatever an entry makes of it
 
-module _ (s : Settings) (b : Book) (current : ℕ) (bytes : List ℕ) where
-  -- the frame is refused: with the book's number, if the book is refused too
-  pub frame-refused : {no : ℕ} {x : Answer (Unit {0})} → x ≡ refused (next (verdict (bookChecks s b)) no) → no ≡ verdict (frameChecks s current bytes) → (no ≡ 0 → ⊥) → outcome x b ≡ frameAsked s b current bytes
-  unfolding frameAsked next
-  frame-refused {no} r e n =
-      ap (λ (x : Answer (Unit {0})). outcome x b) r
-      ∙ outcome-refused (joined (bookChecks s b) _ tt refl refl (still-refused (frameChecks s current bytes) _ tt e n)) (some (verdict (bookChecks s b))) b _
+module _ (cs : List Check) (p : T (proper cs)) (s : Settings) (current : ℕ) (bytes : List ℕ) {L : Type 0} (before : L) (made : Entry → L) where
+  -- the slot's, after those of the frame, and of an entry
+  abbrev slotAfter : ℕ → List Check
+  slotAfter k = check refusal.path (not (live s k)) ∷ []
+
+  abbrev framed : Outcome (Answer (Unit {0})) L
+  framed = outcomeBy (verdict (cs ++ (frameChecks s current bytes ++ slotAfter (frameSlot (frameOf bytes))))) before (made (frameEntry (frameOf bytes)))
+
+  abbrev entry : Entry → Outcome (Answer (Unit {0})) L
+  entry e = outcomeBy (verdict (cs ++ slotAfter (e .slot))) before (made e)
+
+  -- a frame that is not refused by itself is its entry entered
+  pub frame-is : verdict (frameChecks s current bytes) ≡ 0 → framed ≡ entry (frameEntry (frameOf bytes))
+  frame-is none =
+      let slot = slotAfter (frameSlot (frameOf bytes)) in
+      ap (λ (v : ℕ). outcomeBy v before (made (frameEntry (frameOf bytes))))
+      (verdict-append cs _ p ∙ ap (next (verdict cs)) (rest-decides (frameChecks s current bytes) slot tt none) ∙ sym (verdict-append cs slot p))
+
+  -- refused with its own number, unless the others refuse it first
+  refused-after : {k : ℕ} {x : Answer (Unit {0})} → k ≡ verdict (frameChecks s current bytes) → (k ≡ 0 → ⊥) → x ≡ refused (next (verdict cs) k) → outcome x before ≡ framed
+  unfolding next
+  refused-after {k} e n r =
+      ap (λ (x : Answer (Unit {0})). outcome x before) r
+      ∙ outcome-refused (joined cs _ p refl refl (still-refused (frameChecks s current bytes) _ tt e n)) (some (verdict cs)) before _
     where
-      some : (v : ℕ) → next v no ≡ 0 → ⊥
+      some : (v : ℕ) → next v k ≡ 0 → ⊥
       some zero z = n z
       some (suc v) z = omega arith
 
-  -- it is not: it is the book's entering
-  pub frame-enters : verdict (frameChecks s current bytes) ≡ 0 → frameAsked s b current bytes ≡ enterAsked s b (frameSlot (frameOf bytes)) (frameOf bytes .word)
-  unfolding frameAsked
-  frame-enters none =
-      ap (λ (v : ℕ). outcomeBy v b (entered (ruleOf (s .rack)) s b (frameSlot (frameOf bytes)) (frameOf bytes .word)))
-      (same-first _ (bookChecks s b) _ tt tt (first-decides (bookChecks s b) (frameChecks s current bytes) tt none))
+  -- bytes that do not read
+  pub unread-refused : {k : ℕ} {x : Answer (Unit {0})} → k ≡ verdict (readChecks bytes) → (k ≡ 0 → ⊥) → x ≡ refused (next (verdict cs) k) → outcome x before ≡ framed
+  unread-refused e n = refused-after (still-refused (readChecks bytes) _ tt e n) n
 
-  -- of bytes that read, with a record that is timely
-  module _ {f : Frame} (e : readAsked bytes ≡ value f) (z : verdict (timelyChecks s current f) ≡ 0) where
-    pub record-enters : {k : ℕ} {w : ℤ} {o : Outcome (Answer (Unit {0})) Book} → o ≡ enterAsked s b k w → k ≡ frameSlot f → w ≡ f .word → o ≡ frameAsked s b current bytes
-    unfolding readAsked
-    record-enters h p q =
-        h
-        ∙ ap₂ (enterAsked s b) p q
-        ∙ ap (λ (f : Frame). enterAsked s b (frameSlot f) (f .word)) (sym (value-verdict (frameOf bytes) (verdict (readChecks bytes)) e .1))
-        ∙ sym (frame-enters (by-record s current bytes e ∙ z))
+  -- bytes that do, by what their record carries
+  module _ (reads : verdict (readChecks bytes) ≡ 0) where
+    pub carried-refused : {k : ℕ} {x : Answer (Unit {0})} → refused k ≡ entryAsked s current (frameOf bytes) → x ≡ refused (next (verdict cs) k) → outcome x before ≡ framed
+    unfolding entryAsked
+    carried-refused c =
+        let v = refused-verdict (frameEntry (frameOf bytes)) (verdict (entryChecks s current (frameOf bytes))) (sym c) in
+        refused-after (sym (v .0) ∙ by-entry s current bytes reads) (λ z. v .1 (v .0 ∙ z))
+
+    pub carried-enters : {e : Entry} {o : Outcome (Answer (Unit {0})) L} → value e ≡ entryAsked s current (frameOf bytes) → o ≡ entry e → o ≡ framed
+    unfolding entryAsked
+    carried-enters c h =
+        let v = value-verdict (frameEntry (frameOf bytes)) (verdict (entryChecks s current (frameOf bytes))) (sym c) in
+        h ∙ ap entry (sym (v .1)) ∙ sym (frame-is (sym (by-entry s current bytes reads) ∙ v .0))
+
+-- so in a book
+pub frame-enters : (s : Settings) (b : Book) (current : ℕ) (bytes : List ℕ) → verdict (frameChecks s current bytes) ≡ 0 → frameAsked s b current bytes ≡ enterAsked s b (frameSlot (frameOf bytes)) (frameOf bytes .word)
+unfolding frameAsked
+frame-enters s b current bytes = frame-is (bookChecks s b) tt s current bytes b (λ e. entered (ruleOf (s .rack)) s b (e .slot) (e .word))

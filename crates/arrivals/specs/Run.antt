@@ -10,7 +10,7 @@ use Rattle.book.specs.Asked.{openAsked}
 use Rattle.entering.specs.Run.{Entry}
 use Rattle.entering.specs.Asked.{enterAsked}
 use Rattle.frames.specs.Frame.{frameOf}
-use Rattle.arrivals.specs.Entry.{frameSlot, frameChecks, frameAsked}
+use Rattle.arrivals.specs.Entry.{frameEntry, frameChecks, frameAsked}
 
 -- what comes in: a word for a slot, or bytes as a frame and the exchange number that is current then
 pub data Arrival : Type 0 where
@@ -25,7 +25,7 @@ taken s (frame current bytes) = eqb (verdict (frameChecks s current bytes)) 0
 -- the entry that it gives
 abbrev pub entryOf : Arrival → Entry
 entryOf (word e) = e
-entryOf (frame current bytes) = record { slot = frameSlot (frameOf bytes); word = frameOf bytes .word }
+entryOf (frame current bytes) = frameEntry (frameOf bytes)
 
 -- the entries of a run; what is not taken gives none
 unfoldable pub entriesOf : Settings → List Arrival → List Entry

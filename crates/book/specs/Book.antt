@@ -4,7 +4,7 @@ use mathlib.Core.Bool.{Bool, _&&_}
 use mathlib.Core.List.{List}
 use lib.Dec.{eqb}
 use lib.IntN.{ℤ}
-use lib.ListN.{length, replicate}
+use lib.ListN.{length, replicate, take, drop}
 use Rattle.ground.specs.Lists.{at}
 use Rattle.words.specs.Word.{E}
 use Rattle.words.specs.Rule.{Rule}
@@ -17,6 +17,10 @@ pub record Book : Type 0 where
 
 abbrev pub bookOf : List ℤ → List ℤ → Book
 bookOf words votes = record { words = words; votes = votes }
+
+-- a book in one list: its words, and then its votes
+abbrev pub halves : List ℤ → Book
+halves l = bookOf (take slots l) (drop slots l)
 
 -- both lists have their right length
 abbrev pub sized : Book → Bool

@@ -9,8 +9,11 @@ ghost use lib.ListN.{length, replicate};
 ghost use Rattle.ground.specs.Checks.{verdict};
 ghost use Rattle.ground.specs.Answer.{outcome, ofTold, ofDone};
 ghost use Rattle.words.specs.Word.{E as E·};
-ghost use Rattle.book.specs.Book.{bookOf, sized};
+ghost use Rattle.book.specs.Book.{bookOf, sized, halves};
 ghost use Rattle.book.specs.Asked.{bookChecks, openAsked, heldAsked};
+
+// A book in one list: the words, and then the votes.
+pub const BOOK: usize = 2 * Settings::SLOTS;
 
 // Whether both lists have their right length.
 pub fn is_whole(words: &[i32], votes: &[i32]) -> bool
@@ -26,6 +29,16 @@ pub fn book_refused(s: Settings, words: &[i32], votes: &[i32]) -> u8
     refusal::first(
         settings::settings_refused(s),
         refusal::when(!is_whole(words, votes), refusal::LONG),
+    )
+}
+
+// The same of a book in one list.
+pub fn part_refused(s: Settings, part: &[i32]) -> u8
+    ensures { λ r. ⌜ r ≡ verdict (bookChecks s (halves (now (part .entry)))) ⌝ }
+{
+    refusal::first(
+        settings::settings_refused(s),
+        refusal::when(part.len() != BOOK, refusal::LONG),
     )
 }
 
@@ -49,6 +62,18 @@ pub fn open(s: Settings, words: &mut [i32], votes: &mut [i32]) -> Done
     }
     clear(words);
     clear(votes);
+    Done::Done
+}
+
+// The same of a book in one list.
+pub fn open_part(s: Settings, part: &mut [i32]) -> Done
+    ensures { λ r. ⌜ outcome (ofDone r) (halves (now (part .exit))) ≡ openAsked s (halves (now (part .entry))) ⌝ }
+{
+    let no = part_refused(s, part);
+    if no != 0 {
+        return Done::Refused(no);
+    }
+    clear(part);
     Done::Done
 }
 

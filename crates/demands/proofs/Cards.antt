@@ -32,7 +32,7 @@ use Rattle.book.specs.Asked.{heldAsked}
 use Rattle.entering.specs.Run.{leftAt, wordsLeft}
 use Rattle.arrivals.specs.Run.{Arrival, entriesOf, openArrived}
 use Rattle.arrivals.proofs.Runs.{held-after-arrivals}
-use Rattle.exchange.specs.Exchange.{good, symmetric, manifest, statusOf, statusesOf, Exchange, exchange, dealt, answerOf}
+use Rattle.exchange.specs.Exchange.{good, symmetric, manifest, statusOf, statusesOf, Exchange, exchange, settingsFor, dealt, answerOf}
 use Rattle.exchange.specs.Asked.{inputsLong}
 use Rattle.exchange.proofs.Asking.{values-asked}
 use Rattle.exchange.proofs.Dealing.{answer-from}
@@ -46,6 +46,21 @@ use Rattle.agreement.proofs.Demand2.{n, m, a, s, c, GoodCard, Demand2, demand-2
 -- the settings of card p
 abbrev pub cardOf : Turn → ℕ → Settings
 cardOf turn p = record { rack = turn .rack; t = turn .t; p = p }
+
+-- a book, opened, after a run whose accepted words leave, on each live path, the word dealt there to the card
+module _ (X : Exchange) (p : ℕ) where
+  abbrev mine : Settings
+  mine = settingsFor X p
+
+  word-left : (xs : List Arrival) (k : ℕ) → T (live mine k) → at (wordsLeft mine (entriesOf mine xs)) k ≡ leftAt mine k (entriesOf mine xs) E
+  unfolding wordsLeft
+  word-left xs k l =
+      let e : 0 + k ≡ k = omega arith in
+      at-table 1111 0 _ k (pos 0) (live-slot mine k l) ∙ ap (λ (j : ℕ). leftAt mine j (entriesOf mine xs) E) e
+
+  pub holds-dealt : verdict (settingsChecks mine) ≡ 0 → (b : Book) → Sized b → (xs : List Arrival) → ((k : ℕ) → T (live mine k) → leftAt mine k (entriesOf mine xs) E ≡ dealt (ruleOf (X .rack)) X k p) → heldAsked (openArrived mine b xs) ≡ value (answerOf (ruleOf (X .rack)) X p)
+  holds-dealt fine b z xs h =
+      held-after-arrivals mine fine b z xs ∙ ap value (answer-from (ruleOf (X .rack)) X p (wordsLeft mine (entriesOf mine xs)) (λ k l. word-left xs k l ∙ h k l))
 
 module _ (turn : Turn) (x : ℤ) (statuses : List ℕ) (words : List ℤ) where
   abbrev X : Exchange
@@ -123,15 +138,7 @@ module _ (turn : Turn) (x : ℤ) (statuses : List ℕ) (words : List ℤ) where
 
     -- the held answer after a run whose accepted words leave, on each live path, the word dealt there
     pub holds-answer : (b : Book) → Sized b → (xs : List Arrival) → ((k : ℕ) → T (live (own p) k) → leftAt (own p) k (entriesOf (own p) xs) E ≡ dealt (ruleOf (turn .rack)) X k p) → heldAsked (openArrived (own p) b xs) ≡ value w
-    unfolding wordsLeft
-    holds-answer b z xs h =
-        held-after-arrivals (own p) checked b z xs
-        ∙ ap value (answer-from (ruleOf (turn .rack)) X p (wordsLeft (own p) (entriesOf (own p) xs)) left ∙ answers)
-      where
-        left : (k : ℕ) → T (live (own p) k) → at (wordsLeft (own p) (entriesOf (own p) xs)) k ≡ dealt (ruleOf (turn .rack)) X k p
-        left k l =
-            let e : 0 + k ≡ k = omega arith in
-            unfold wordsLeft in (at-table 1111 0 _ k (pos 0) (live-slot (own p) k l) ∙ ap (λ (j : ℕ). leftAt (own p) j (entriesOf (own p) xs) E) e ∙ h k l)
+    holds-answer b z xs h = holds-dealt X p checked b z xs h ∙ ap value answers
 
   -- any two good cards
   pub tell-same : 2 * a X + 2 * s X + c X + m X < n X → a X ≤ m X → {p q : ℕ} {w v : ℤ} → Tells p w → Tells q v → w ≡ v

@@ -8,3 +8,5 @@ pub mod Cards
 pub mod Demand2
 pub mod Runs
 pub mod Demand3
+pub mod Books
+pub mod Outcome

@@ -4,9 +4,12 @@ use mathlib.Core.Path.{_≡_, refl, sym, ap, _∙_}
 use mathlib.Core.Bool.{Bool, true, false, cond}
 use mathlib.Core.List.{List, [], _∷_, _++_}
 use native.Mathlib.Omega.{arith}
+use lib.IntN.{ℤ}
 use Rattle.ground.specs.Checks.{Check, check, verdict, NoneOf}
 use Rattle.ground.specs.Answer.{Answer, refused, answer, Outcome, outcome, after, outcomeBy}
 use Rattle.ground.proofs.Answers.{refused-verdict, refused-leaves}
+use Rattle.book.specs.Book.{Book, halves}
+use Rattle.book.proofs.Halves.{halves-apart}
 use Rattle.omh.specs.Numbers.{numberOf, numbered, placedAs}
 use Rattle.demands.specs.Refusing.{First, Refuses, Numbers, Judged, Counted}
 
@@ -66,6 +69,12 @@ module _ (cs : List Check) where
   unfolding outcomeBy
   by-outcome {L} made {before} e = refuses tt before made (ap (λ (o : Outcome (Answer (Unit {0})) L). o .yields) e) (ap (λ (o : Outcome (Answer (Unit {0})) L). o .leaves) e)
 
+  -- an outcome of a book in one list
+  pub by-part : (made : Book) {before l : List ℤ} {y : Answer (Unit {0})} → outcome y (halves l) ≡ outcomeBy (verdict cs) (halves before) made → Refuses cs y before l
+  by-part made {before} {l} e =
+      let r = by-outcome made e in
+      record { only = r .only; always = r .always; unchanged = λ k q. halves-apart l before (r .unchanged k q) }
+
   -- ---- a number
 
   counts : {L : Type 0} {before l : L} {k : ℕ} → k ≡ verdict cs → ((verdict cs ≡ 0 → ⊥) → l ≡ before) → Numbers cs k before l
@@ -84,12 +93,15 @@ module _ (cs : List Check) where
   pub by-verdict : {k : ℕ} → k ≡ verdict cs → Counted cs k
   by-verdict e = counts e (λ n. refl)
 
+  -- a number, and what is handed in and yielded beside it
+  pub by-state : {L : Type 0} (made : L) {before l : L} {k : ℕ} → outcome k l ≡ outcome (verdict cs) (after (verdict cs) before made) → Numbers cs k before l
+  by-state {L} made {before} e =
+      counts (ap (λ (o : Outcome ℕ L). o .yields) e) (λ n. ap (λ (o : Outcome ℕ L). o .leaves) e ∙ refused-leaves (verdict cs) before made n)
+
   -- a call's number, and what it leaves
   pub by-number : {L : Type 0} (made : L) {before l : L} {k : ℕ} → outcome k l ≡ numbered (outcomeBy (verdict cs) before made) → Numbers cs k before l
   unfolding outcomeBy
-  by-number {L} made {before} e =
-      counts (ap (λ (o : Outcome ℕ L). o .yields) e ∙ number-is tt (verdict cs))
-      (λ n. ap (λ (o : Outcome ℕ L). o .leaves) e ∙ refused-leaves (verdict cs) before made n)
+  by-number made {before} e = by-state made (e ∙ ap (λ (k : ℕ). outcome k (after (verdict cs) before made)) (number-is tt (verdict cs)))
 
   -- an answer's number, and its place
   pub by-place : {A B : Type 0} (a : A) (form : A → B) (before : B) {l : B} {k : ℕ} → outcome k l ≡ placedAs form (answer (verdict cs) a) before → Numbers cs k before l

@@ -1,4 +1,4 @@
--- Demand 1: document 01's order of refusal numbers for each call, for any arguments.
+-- Demand 1: the order of refusal numbers for each call that documents 01 and 02 give, for any arguments.
 use Prim.Native.Nat.{ℕ}
 use mathlib.Core.Path.{_≡_, refl}
 use mathlib.Core.Bool.{Bool}
@@ -14,9 +14,12 @@ use Rattle.book.specs.Book.{Book}
 use Rattle.book.specs.Asked.{bookChecks, slotChecks, heldChecks}
 use Rattle.frames.specs.Asked.{readChecks, writeChecks}
 use Rattle.frames.specs.declared.Frame.{Frame}
-use Rattle.arrivals.specs.Entry.{arrivalChecks}
+use Rattle.arrivals.specs.Entry.{entryChecks, arrivalChecks}
+use Rattle.books.specs.Books.{booksChecks, booksSlotChecks}
+use Rattle.books.specs.Asked.{booksFrameChecks}
 use Rattle.exchange.specs.Asked.{statusChecks, valueChecks}
 use Rattle.bench.specs.Asked.{answerChecks, answersChecks}
+use Rattle.outcomes.specs.Asked.{rowChecks, startChecks, listChecks}
 use Rattle.dealing.specs.Asked.{wordChecks, fillChecks}
 use Rattle.bound.specs.Bound.{boundChecks}
 use Rattle.files.specs.File.{fileChecks}
@@ -37,8 +40,13 @@ pub record Orders (s : Settings) (turn : Turn) (rack : Rack) (b : Book) (words l
   pub opening-refilling : numbers (bookChecks s b) ≡ 1 ∷ 2 ∷ 3 ∷ 4 ∷ 5 ∷ []
   pub entering : numbers (slotChecks s b k) ≡ 1 ∷ 2 ∷ 3 ∷ 4 ∷ 5 ∷ 8 ∷ []
   pub held-answer : numbers (heldChecks b) ≡ 5 ∷ []
-  -- entering a frame: 1 to 5, 9, 10, 11, 14, 12, 13, 15, 8; reading 9, 10, 11, 14; writing 5, 14
+  -- the long list: as the book
+  pub books-opening-refilling : numbers (booksChecks s list) ≡ 1 ∷ 2 ∷ 3 ∷ 4 ∷ 5 ∷ []
+  pub books-entering : numbers (booksSlotChecks s list k) ≡ 1 ∷ 2 ∷ 3 ∷ 4 ∷ 5 ∷ 8 ∷ []
+  -- entering a frame: 1 to 5, 9, 10, 11, 14, 12, 13, 15, 8, of which the frame alone has 9 to 15; reading 9, 10, 11, 14; writing 5, 14
   pub entering-frame : numbers (arrivalChecks s b current bytes) ≡ 1 ∷ 2 ∷ 3 ∷ 4 ∷ 5 ∷ 9 ∷ 10 ∷ 11 ∷ 14 ∷ 12 ∷ 13 ∷ 15 ∷ 8 ∷ []
+  pub books-entering-frame : numbers (booksFrameChecks s list current bytes) ≡ 1 ∷ 2 ∷ 3 ∷ 4 ∷ 5 ∷ 9 ∷ 10 ∷ 11 ∷ 14 ∷ 12 ∷ 13 ∷ 15 ∷ 8 ∷ []
+  pub frame-entry : numbers (entryChecks s current f) ≡ 12 ∷ 13 ∷ 15 ∷ 8 ∷ 8 ∷ []
   pub reading-frame : numbers (readChecks bytes) ≡ 9 ∷ 10 ∷ 11 ∷ 14 ∷ []
   pub writing-frame : numbers (writeChecks f bytes) ≡ 5 ∷ 14 ∷ []
   -- bench: 1 to 5, 7, 6, 8
@@ -49,6 +57,10 @@ pub record Orders (s : Settings) (turn : Turn) (rack : Rack) (b : Book) (words l
   pub all-answers : numbers (answersChecks turn x statuses words list) ≡ 1 ∷ 2 ∷ 3 ∷ 5 ∷ 7 ∷ 6 ∷ []
   pub filling : numbers (fillChecks s x statuses words b) ≡ 1 ∷ 2 ∷ 3 ∷ 4 ∷ 5 ∷ 7 ∷ 6 ∷ []
   pub bound : numbers (boundChecks rack statuses) ≡ 1 ∷ 2 ∷ 5 ∷ 7 ∷ []
+  -- the outcome, by value and as a list: as all answers; started in a list: 5
+  pub outcome-row : numbers (rowChecks turn x statuses words) ≡ 1 ∷ 2 ∷ 3 ∷ 5 ∷ 7 ∷ 6 ∷ []
+  pub outcome-list : numbers (listChecks turn x statuses words list) ≡ 1 ∷ 2 ∷ 3 ∷ 5 ∷ 7 ∷ 6 ∷ []
+  pub outcome-start : numbers (startChecks list) ≡ 5 ∷ []
   -- listing: 9, 10, 11, 16, 9, 1, 2, 3, 7, 6, 16
   pub listing : numbers (fileChecks bytes) ≡ 9 ∷ 10 ∷ 11 ∷ 16 ∷ 9 ∷ 1 ∷ 2 ∷ 3 ∷ 7 ∷ 6 ∷ 16 ∷ []
 
@@ -64,7 +76,11 @@ orders s turn rack b words list statuses bytes f x long k current q1 q2 q3 = rec
   opening-refilling = refl;
   entering = refl;
   held-answer = refl;
+  books-opening-refilling = refl;
+  books-entering = refl;
   entering-frame = refl;
+  books-entering-frame = refl;
+  frame-entry = refl;
   reading-frame = refl;
   writing-frame = refl;
   of-statuses = refl;
@@ -74,5 +90,8 @@ orders s turn rack b words list statuses bytes f x long k current q1 q2 q3 = rec
   all-answers = refl;
   filling = refl;
   bound = refl;
+  outcome-row = refl;
+  outcome-list = refl;
+  outcome-start = refl;
   listing = refl;
 }

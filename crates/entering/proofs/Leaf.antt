@@ -32,39 +32,39 @@ left-inner s k few t n = go (ℕ-discrete (s .p) (s .t))
 
 -- ---- one vote made again, with its members handed on
 
-module _ (R : Rule) (ws vs : List ℤ) (members : List Bool) (r d k : ℕ) where
-  pub made-last : r ≡ 0 → memberRemade R ws vs members r d k ≡ R .read d (at ws k)
+module _ (R : Rule) (w : ℤ) (vs : List ℤ) (members : List Bool) (r d k : ℕ) where
+  pub made-last : r ≡ 0 → memberRemade R w vs members r d k ≡ R .read d w
   unfolding memberRemade
   made-last e = rw e
 
-  pub made-more : (r ≡ 0 → ⊥) → memberRemade R ws vs members r d k ≡ decided R (R .read d (at ws k)) (heldVotes R vs members (d + 1) k 10)
+  pub made-more : (r ≡ 0 → ⊥) → memberRemade R w vs members r d k ≡ decided R (R .read d w) (heldVotes R vs members (d + 1) k 10)
   made-more n = go r n
     where
-      go : (r : ℕ) → (r ≡ 0 → ⊥) → memberRemade R ws vs members r d k ≡ decided R (R .read d (at ws k)) (heldVotes R vs members (d + 1) k 10)
+      go : (r : ℕ) → (r ≡ 0 → ⊥) → memberRemade R w vs members r d k ≡ decided R (R .read d w) (heldVotes R vs members (d + 1) k 10)
       go zero n = absurd (n refl)
       go (suc r) n = unfold memberRemade in refl
 
 -- it is the vote made again at a live slot
-pub remade-handed : (R : Rule) (s : Settings) (ws vs : List ℤ) (members : List Bool) (r d k : ℕ) → s .rack .m ≤ 3 → T (live s k) → Handed s members k → r ≡ roundsLeft s (level k) → d ≡ level k → memberRemade R ws vs members r d k ≡ remade R s ws vs k
+pub remade-handed : (R : Rule) (s : Settings) (ws vs : List ℤ) (members : List Bool) (r d k : ℕ) → s .rack .m ≤ 3 → T (live s k) → Handed s members k → r ≡ roundsLeft s (level k) → d ≡ level k → memberRemade R (at ws k) vs members r d k ≡ remade R s ws vs k
 unfolding remade
 remade-handed R s ws vs members r d k few t m e f = rw f (own (ℕ-discrete (s .p) (s .t)))
   where
     l : level k ≤ s .rack .m
     l = live-level s k t
 
-    read-only : r ≡ 0 → memberRemade R ws vs members r (level k) k ≡ reading R ws k
-    read-only z = made-last R ws vs members r (level k) k z
+    read-only : r ≡ 0 → memberRemade R (at ws k) vs members r (level k) k ≡ reading R ws k
+    read-only z = made-last R (at ws k) vs members r (level k) k z
 
-    inner : (s .p ≡ s .t → ⊥) → Dec (level k ≡ s .rack .m) → memberRemade R ws vs members r (level k) k ≡ remade R s ws vs k
+    inner : (s .p ≡ s .t → ⊥) → Dec (level k ≡ s .rack .m) → memberRemade R (at ws k) vs members r (level k) k ≡ remade R s ws vs k
     inner o (yes q) = read-only (omega (arith, left-other s (level k) o)) ∙ sym (from-last R s ws _ k q)
     inner o (no n) =
         let small : k < 111 = level-small k (live-slot s k t) (omega (arith, l)) in
-        made-more R ws vs members r (level k) k (λ z. omega (arith, l, left-other s (level k) o))
+        made-more R (at ws k) vs members r (level k) k (λ z. omega (arith, l, left-other s (level k) o))
         ∙ ap (decided R (reading R ws k)) (over-cong (may members) _ _ _ 10 0
         (λ q h. m q (omega arith) ∙ sym (live-below s k q (omega arith) t (omega (arith, l)) small (apart-of s o)))
         (λ q h u. ap (λ (x : ℕ). R .read x (at vs (below k q))) (add-one (level k) ∙ sym (level-below k q small (omega arith)))))
         ∙ sym (from-longer R s ws _ k o n)
 
-    own : Dec (s .p ≡ s .t) → memberRemade R ws vs members r (level k) k ≡ remade R s ws vs k
+    own : Dec (s .p ≡ s .t) → memberRemade R (at ws k) vs members r (level k) k ≡ remade R s ws vs k
     own (yes q) = read-only (e ∙ left-own s (level k) q) ∙ sym (from-own R s ws _ k q)
     own (no o) = inner o (ℕ-discrete (level k) (s .rack .m))

@@ -1,5 +1,6 @@
 pub mod Leaf
 pub mod Steps
+mod Admitted
 pub mod Along
 pub mod Entering
 pub mod OnlyLive

@@ -1,14 +1,16 @@
 -- Laws of the loop that re-makes votes on the way up from a slot.
-use Prim.Native.Nat.{ℕ, _+_, _-_, _≤_, _<_}
+use Prim.Native.Nat.{ℕ, zero, suc, _+_, _-_, _≤_, _<_}
 use mathlib.Core.Path.{_≡_, refl, sym, ap, _∙_, subst}
 use mathlib.Core.Bool.{Bool, true, false}
 use mathlib.Core.List.{List}
 use native.Mathlib.Omega.{arith}
+use native.Mathlib.Numerals.{add-one}
 use native.Mathlib.Decide.{ℕ-discrete}
 use lib.Dec.{T}
-use lib.IntN.{ℤ}
-use lib.ListN.{length, set, length-set}
-use lib.Seq.{getD-set-same, getD-set-other}
+use lib.IntN.{ℤ, pos}
+use lib.ListN.{length, set, take, length-set}
+use lib.Seq.{getD-set-same, getD-set-other, getD-take}
+use Rattle.ground.specs.Lists.{at}
 use Rattle.ground.proofs.Bools.{T-eq}
 use Rattle.ground.proofs.Lists.{length-table}
 use Rattle.words.specs.Rule.{Rule}
@@ -22,7 +24,7 @@ use Rattle.paths.proofs.Members.{none-next}
 use Rattle.paths.proofs.Handed.{Handed, handed-table, left-other, left-few}
 use Rattle.vote.specs.Vote.{ruleOf}
 use Rattle.entering.specs.Entered.{remade, remadeAlong}
-use Rattle.entering.specs.Remaking.{memberRemade, Remakes, Enters}
+use Rattle.entering.specs.Remaking.{memberRemade, wayWords, Remakes, Enters}
 use Rattle.entering.proofs.Leaf.{left-inner, remade-handed}
 
 -- ---- one step up
@@ -61,49 +63,77 @@ left-above s k t p =
     let o : s .p ≡ s .t → ⊥ = λ q. omega (arith, live-own s k q t) in
     omega (arith, left-other s (level k) o, left-other s (level (above k)) o, level-above k d (live-slot s k t) e, live-level s k t)
 
+-- ---- the words on the way
+
+-- the slot that is i steps up from k
+abbrev up : ℕ → ℕ → ℕ
+up zero k = k
+up (suc i) k = above (up i k)
+
+way-at : (ws : List ℤ) (k i : ℕ) → i ≤ 3 → at (wayWords ws k) i ≡ at ws (up i k)
+unfolding wayWords
+way-at ws k zero h = refl
+way-at ws k (suc zero) h = refl
+way-at ws k (suc (suc zero)) h = refl
+way-at ws k (suc (suc (suc zero))) h = refl
+way-at ws k (suc (suc (suc (suc i)))) h = absurd (omega arith)
+
+-- those of the first slots of a list are those of the list
+pub way-front : (n : ℕ) (l : List ℤ) (k : ℕ) → k < n → wayWords (take n l) k ≡ wayWords l k
+unfolding wayWords
+way-front n l k h = rw (first k h, first (above k) (omega arith), first (above (above k)) (omega arith), first (above (above (above k))) (omega arith))
+  where
+    first : (j : ℕ) → j < n → at (take n l) j ≡ at l j
+    first j g = getD-take n l j (pos 0) g
+
 -- ---- the walk
 
--- the walk from `slot` has come to k: what is handed on belongs to k, and what is left to re-make is the way up from k
-pub record Climbs (s : Settings) (words votes₀ : List ℤ) (slot : ℕ) (votes : List ℤ) (members : List Bool) (left d k : ℕ) : Type 0 where
+-- the walk from `slot`, with the words on its way, has come to k in i steps: what is handed on belongs to k, and what is left to re-make is the way up from k
+pub record Climbs (s : Settings) (words votes₀ : List ℤ) (slot : ℕ) (votes : List ℤ) (members : List Bool) (left d k i : ℕ) : Type 0 where
   pub few : s .rack .m ≤ 3
-  pub words-whole : length words ≡ slots
   pub votes-whole : length votes ≡ slots
   pub alive : T (live s k)
   pub cards : length members ≡ 10
   pub handed : Handed s members k
   pub rounds : left ≡ roundsLeft s (level k)
   pub deep : d ≡ level k
-  pub same : remadeAlong (ruleOf (s .rack)) s words (way k) votes ≡ remadeAlong (ruleOf (s .rack)) s words (way slot) votes₀
+  pub short : i + d ≤ 3
+  pub above-by : k ≡ up i slot
+  pub same : (all : List ℤ) → words ≡ wayWords all slot → remadeAlong (ruleOf (s .rack)) s all (way k) votes ≡ remadeAlong (ruleOf (s .rack)) s all (way slot) votes₀
 
 -- it begins with what the slot's path has
-pub climb-first : {s : Settings} {ws vs : List ℤ} {members : List Bool} {slot left d : ℕ} → Enters s ws vs members slot → d ≡ level slot → left ≡ roundsLeft s d → Climbs s ws vs slot vs members left d slot
+pub climb-first : {s : Settings} {ws vs : List ℤ} {members : List Bool} {slot left d : ℕ} → Enters s vs members slot → d ≡ level slot → left ≡ roundsLeft s d → Climbs s ws vs slot vs members left d slot 0
 climb-first {s} {slot = k} a g e = rw (e, a .here, g) (record {
   few = a .few;
-  words-whole = a .words-whole;
   votes-whole = a .votes-whole;
   alive = a .alive;
   cards = length-table 10 0 (lengthens s k);
   handed = handed-table s k;
   rounds = refl;
   deep = refl;
-  same = refl;
+  short = omega (arith, a .few, live-level s k (a .alive));
+  above-by = refl;
+  same = λ all e. refl;
 })
 
-module _ {s : Settings} {ws vs₀ : List ℤ} {slot : ℕ} {vs : List ℤ} {members : List Bool} {left d k : ℕ} (c : Climbs s ws vs₀ slot vs members left d k) where
+module _ {s : Settings} {ws vs₀ : List ℤ} {slot : ℕ} {vs : List ℤ} {members : List Bool} {left d k i : ℕ} (c : Climbs s ws vs₀ slot vs members left d k i) where
   -- what the re-making at k is asked
-  pub climb-asks : Remakes ws vs members left d k
+  pub climb-asks : Remakes vs members left d k
   climb-asks = record {
-    words-whole = c .words-whole;
     votes-whole = c .votes-whole;
     cards = c .cards;
-    deep = omega (arith, c .deep, c .few, live-level s k (c .alive));
+    deep = omega (arith, c .short);
     slot = live-slot s k (c .alive);
     inner = λ n. left-inner s k (c .few) (c .alive) (λ z. n (c .rounds ∙ z));
   }
 
-  -- and gives
-  climb-gives : {v : ℤ} → v ≡ memberRemade (ruleOf (s .rack)) ws vs members left d k → v ≡ remade (ruleOf (s .rack)) s ws vs k
-  climb-gives e = e ∙ remade-handed (ruleOf (s .rack)) s ws vs members left d k (c .few) (c .alive) (c .handed) (c .rounds) (c .deep)
+  -- and gives, of the word at k
+  climb-gives : {v w : ℤ} → v ≡ memberRemade (ruleOf (s .rack)) w vs members left d k → w ≡ at ws i → (all : List ℤ) → ws ≡ wayWords all slot → v ≡ remade (ruleOf (s .rack)) s all vs k
+  climb-gives e f all g =
+      let own = f ∙ ap (λ (l : List ℤ). at l i) g ∙ way-at all slot i (omega (arith, c .short)) ∙ ap (at all) (sym (c .above-by)) in
+      e
+      ∙ ap (λ (w : ℤ). memberRemade (ruleOf (s .rack)) w vs members left d k) own
+      ∙ remade-handed (ruleOf (s .rack)) s all vs members left d k (c .few) (c .alive) (c .handed) (c .rounds) (c .deep)
 
   pub climb-few : left ≤ 3
   climb-few = omega (arith, c .rounds, c .few, left-few s (level k))
@@ -111,26 +141,27 @@ module _ {s : Settings} {ws vs₀ : List ℤ} {slot : ℕ} {vs : List ℤ} {memb
   pub climb-level : 0 < k → 0 < d
   climb-level p = let (e, f) = level-pos k (live-slot s k (c .alive)) p in omega (arith, c .deep)
 
-  pub climb-more : 0 < k → {v : ℤ} {q j : ℕ} → v ≡ memberRemade (ruleOf (s .rack)) ws vs members left d k → q ≡ lastRelay k → j ≡ above k → Climbs s ws vs₀ slot (set vs k v) (set members q true) (left + 1) (d - 1) j
-  climb-more p {v} e last up = rw (last, up) (record {
+  pub climb-more : 0 < k → {v w : ℤ} {q j : ℕ} → v ≡ memberRemade (ruleOf (s .rack)) w vs members left d k → w ≡ at ws i → q ≡ lastRelay k → j ≡ above k → Climbs s ws vs₀ slot (set vs k v) (set members q true) (left + 1) (d - 1) j (i + 1)
+  climb-more p {v} e f last next = rw (last, next) (record {
     few = c .few;
-    words-whole = c .words-whole;
     votes-whole = length-set vs k v ∙ c .votes-whole;
     alive = up-live s k (c .alive) p;
     cards = length-set members (lastRelay k) true ∙ c .cards;
     handed = handed-above s members k (c .cards) (c .alive) p (c .handed);
     rounds = ap (λ (r : ℕ). r + 1) (c .rounds) ∙ sym (left-above s k (c .alive) p);
     deep = let (f, g) = level-pos k (live-slot s k (c .alive)) p in omega (arith, c .deep, level-above k f (live-slot s k (c .alive)) g);
-    same = along-step (ruleOf (s .rack)) s ws vs k (live-slot s k (c .alive)) p (climb-gives e) ∙ c .same;
+    short = omega (arith, c .short, climb-level p);
+    above-by = ap above (c .above-by) ∙ ap (λ (j : ℕ). up j slot) (sym (add-one i));
+    same = λ all g. along-step (ruleOf (s .rack)) s all vs k (live-slot s k (c .alive)) p (climb-gives e f all g) ∙ c .same all g;
   })
 
 -- at slot 0 the level is 0
-pub climb-top : {s : Settings} {ws vs₀ : List ℤ} {slot : ℕ} {vs : List ℤ} {members : List Bool} {left d k : ℕ} → k ≤ 0 → Climbs s ws vs₀ slot vs members left d k → Climbs s ws vs₀ slot vs members left 0 0
-climb-top {s} {ws} {vs₀} {slot} {vs} {members} {left} {d} {k} h c =
+pub climb-top : {s : Settings} {ws vs₀ : List ℤ} {slot : ℕ} {vs : List ℤ} {members : List Bool} {left d k i : ℕ} → k ≤ 0 → Climbs s ws vs₀ slot vs members left d k i → Climbs s ws vs₀ slot vs members left 0 0 i
+climb-top {s} {ws} {vs₀} {slot} {vs} {members} {left} {d} {k} {i} h c =
     let z : k ≡ 0 = omega arith in
-    let e : Climbs s ws vs₀ slot vs members left d 0 = rw z at c in
+    let e : Climbs s ws vs₀ slot vs members left d 0 i = rw z at c in
     let f : d ≡ 0 = e .deep ∙ level-0 0 (omega arith) in
     rw f at e
 
-pub climb-done : {s : Settings} {ws vs₀ : List ℤ} {slot : ℕ} {vs : List ℤ} {members : List Bool} {left : ℕ} → Climbs s ws vs₀ slot vs members left 0 0 → {v : ℤ} → v ≡ memberRemade (ruleOf (s .rack)) ws vs members left 0 0 → set vs 0 v ≡ remadeAlong (ruleOf (s .rack)) s ws (way slot) vs₀
-climb-done {s} {ws} {vs = vs} c e = along-top (ruleOf (s .rack)) s ws vs (climb-gives c e) ∙ c .same
+pub climb-done : {s : Settings} {ws vs₀ : List ℤ} {slot : ℕ} {vs : List ℤ} {members : List Bool} {left i : ℕ} → Climbs s ws vs₀ slot vs members left 0 0 i → {v w : ℤ} → v ≡ memberRemade (ruleOf (s .rack)) w vs members left 0 0 → w ≡ at ws i → (all : List ℤ) → ws ≡ wayWords all slot → set vs 0 v ≡ remadeAlong (ruleOf (s .rack)) s all (way slot) vs₀
+climb-done {s} {vs = vs} c e f all g = along-top (ruleOf (s .rack)) s all vs (climb-gives c e f all g) ∙ c .same all g

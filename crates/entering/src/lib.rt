@@ -9,16 +9,18 @@ ghost use mathlib.Core.List.{_∷_};
 ghost use Prim.Native.Nat.{_<_};
 ghost use lib.ListN.{length};
 ghost use Rattle.ground.specs.Answer.{outcome, ofDone};
-ghost use Rattle.ground.specs.Lists.{at};
+ghost use Rattle.ground.specs.Lists.{at, table};
 ghost use Rattle.words.specs.Rule.{omh};
-ghost use Rattle.settings.specs.Settings.{slots};
-ghost use Rattle.paths.specs.Slots.{way};
+ghost use Rattle.settings.specs.Settings.{mostCards, slots};
+ghost use Rattle.paths.specs.Slots.{mayRelay};
 ghost use Rattle.vote.specs.Members.{Reports};
-ghost use Rattle.vote.specs.Vote.{ruleOf};
-ghost use Rattle.book.specs.Book.{bookOf};
-ghost use Rattle.entering.specs.Entered.{holds, remadeAlong};
+ghost use Rattle.book.specs.Book.{bookOf, halves};
+ghost use Rattle.entering.specs.Entered.{holds};
 ghost use Rattle.entering.specs.Asked.{enterAsked};
-ghost use Rattle.entering.specs.Remaking.{heldVotes, memberRemade, Remakes, Enters};
+ghost use Rattle.entering.specs.Remaking.{heldVotes, memberRemade, wayWords, Remakes, Enters, RemadeUp, Admits};
+
+// A path has as many levels above it, itself among them, as there are rounds and one.
+const LEVELS: usize = Settings::MAX_ROUNDS + 1;
 
 // Puts the held votes one relay longer than slot k, by each member and read at level d, after the own report, and answers how many reports there are.
 fn gather(
@@ -41,19 +43,19 @@ fn gather(
     count
 }
 
-// The vote at slot k of level d, made again from the words and the other held votes; `members` are the cards that may lengthen its path, and with no rounds left it is the reading.
+// The vote at slot k of level d, made again from its own word and the other held votes; `members` are the cards that may lengthen its path, and with no rounds left it is the reading.
 fn remake(
-    words: &[i32],
+    word: i32,
     votes: &[i32],
     members: &[bool; Settings::MAX_CARDS],
     left: usize,
     d: usize,
     k: usize,
 ) -> i32
-    requires { ⌜ Remakes (now words) (now votes) (now members) left d k ⌝ }
-    ensures { λ r. ⌜ r ≡ memberRemade omh (now (words .entry)) (now (votes .entry)) (now (members .entry)) left d k ⌝ }
+    requires { ⌜ Remakes (now votes) (now members) left d k ⌝ }
+    ensures { λ r. ⌜ r ≡ memberRemade omh word (now (votes .entry)) (now (members .entry)) left d k ⌝ }
 {
-    let own = words::read_at(d, words[k]);
+    let own = words::read_at(d, word);
     if left == 0 {
         return own;
     }
@@ -63,29 +65,42 @@ fn remake(
     words::unwrap(words::majority(&reports[..count]))
 }
 
-// Re-makes the votes at a live slot and at each slot above it, slot 0 last; `members` are the cards that may lengthen its path. On each step up the last relay may relay again.
+// The words at a slot and at the three above it, above slot 0 its own again: all that the votes on the way up are made from besides votes.
+fn way_words(words: &[i32], slot: usize) -> [i32; LEVELS]
+    requires { ⌜ slot < length (now words) ⌝ }
+    ensures { λ r. ⌜ r ≡ wayWords (now (words .entry)) slot ⌝ }
+{
+    let second = paths::above(slot);
+    let third = paths::above(second);
+    let fourth = paths::above(third);
+    [words[slot], words[second], words[third], words[fourth]]
+}
+
+// Re-makes the votes at a live slot and at each slot above it, slot 0 last, from the words there; `members` are the cards that may lengthen its path. On each step up the last relay may relay again.
 fn walk_up(
     s: Settings,
-    words: &[i32],
+    words: &[i32; LEVELS],
     votes: &mut [i32],
     members: &mut [bool; Settings::MAX_CARDS],
     slot: usize,
 )
-    requires { ⌜ Enters s (now words) (now votes) (now members) slot ⌝ }
-    ensures { λ r. ⌜ now (votes .exit) ≡ remadeAlong (ruleOf (s .rack)) s (now (words .entry)) (way slot) (now (votes .entry)) ⌝ }
+    requires { ⌜ Enters s (now votes) (now members) slot ⌝ }
+    ensures { λ r. ⌜ RemadeUp s slot (now (words .entry)) (now (votes .entry)) (now (votes .exit)) ⌝ }
 {
     let mut d = paths::level_of(slot);
     let mut left = paths::rounds_left(s, d);
     let mut k = slot;
+    let mut i: usize = 0;
     while 0 < k {
-        let vote = remake(words, votes, members, left, d, k);
+        let vote = remake(words[i], votes, members, left, d, k);
         votes[k] = vote;
         members[paths::last_relay(k)] = true;
         left += 1;
         d -= 1;
+        i += 1;
         k = paths::above(k);
     }
-    let vote = remake(words, votes, members, left, 0, 0);
+    let vote = remake(words[i], votes, members, left, 0, 0);
     votes[0] = vote;
 }
 
@@ -96,19 +111,46 @@ fn held_after(_old: i32, new: i32) -> i32
     new
 }
 
+// The refusal number of an entering, given that of its book; 0 for none, and then `members`, the cards that may relay, are those that may lengthen the slot's path.
+fn admit(s: Settings, no: u8, members: &mut [bool; Settings::MAX_CARDS], slot: usize) -> u8
+    requires { ⌜ now members ≡ table mostCards 0 (mayRelay s) ⌝ }
+    ensures { λ r. ⌜ Admits s no slot r (now (members .exit)) ⌝ }
+{
+    if no != 0 {
+        return no;
+    }
+    if !paths::live_in(s, members, slot) {
+        return refusal::PATH;
+    }
+    0
+}
+
 // Enters a word at a slot.
 pub fn enter(s: Settings, words: &mut [i32], votes: &mut [i32], slot: usize, word: i32) -> Done
     ensures { λ r. ⌜ outcome (ofDone r) (bookOf (now (words .exit)) (now (votes .exit))) ≡ enterAsked s (bookOf (now (words .entry)) (now (votes .entry))) slot word ⌝ }
 {
-    let no = book::book_refused(s, words, votes);
+    let mut members = paths::may_relay(s);
+    let no = admit(s, book::book_refused(s, words, votes), &mut members, slot);
     if no != 0 {
         return Done::Refused(no);
     }
-    let mut members = paths::may_relay(s);
-    if !paths::live_in(s, &mut members, slot) {
-        return Done::Refused(refusal::PATH);
-    }
     words[slot] = held_after(words[slot], word);
-    walk_up(s, words, votes, &mut members, slot);
+    let on_way = way_words(words, slot);
+    walk_up(s, &on_way, votes, &mut members, slot);
+    Done::Done
+}
+
+// The same in a book in one list. Two parts of one list are never lent at once: the words on the way are copied, and the votes alone are lent to be written.
+pub fn enter_part(s: Settings, part: &mut [i32], slot: usize, word: i32) -> Done
+    ensures { λ r. ⌜ outcome (ofDone r) (halves (now (part .exit))) ≡ enterAsked s (halves (now (part .entry))) slot word ⌝ }
+{
+    let mut members = paths::may_relay(s);
+    let no = admit(s, book::part_refused(s, part), &mut members, slot);
+    if no != 0 {
+        return Done::Refused(no);
+    }
+    part[slot] = held_after(part[slot], word);
+    let on_way = way_words(part, slot);
+    walk_up(s, &on_way, &mut part[Settings::SLOTS..], &mut members, slot);
     Done::Done
 }

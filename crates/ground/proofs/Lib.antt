@@ -3,6 +3,7 @@ pub mod Bits
 pub mod Verdicts
 pub mod Answers
 pub mod Lists
+pub mod Parts
 pub mod Numbers
 pub mod Twos
 pub mod Fixed

@@ -1,13 +1,21 @@
 -- Lists: a place, a table, what goes over cards, and counts.
-use Prim.Native.Nat.{ℕ, zero, suc}
+use Prim.Native.Nat.{ℕ, zero, suc, _*_}
 use mathlib.Core.Bool.{Bool, true, false, cond, _&&_, _||_}
-use mathlib.Core.List.{List, [], _∷_}
+use mathlib.Core.List.{List, [], _∷_, _++_}
 use lib.IntN.{ℤ, pos}
-use lib.ListN.{getD}
+use lib.ListN.{getD, take, drop}
 
 -- the word at place k of a lent list
 abbrev pub at : List ℤ → ℕ → ℤ
 at l k = getD l k (pos 0)
+
+-- the part of w places that is number t of a list of such parts
+unfoldable pub part : {A : Type 0} → ℕ → ℕ → List A → List A
+part w t l = take w (drop (w * t) l)
+
+-- the list with that part replaced, everything else as it was
+unfoldable pub withPart : {A : Type 0} → ℕ → ℕ → List A → List A → List A
+withPart w t l new = take (w * t) l ++ (new ++ drop w (drop (w * t) l))
 
 -- f at each of the n numbers from s on
 unfoldable pub table : {A : Type 0} → ℕ → ℕ → (ℕ → A) → List A

@@ -33,6 +33,12 @@ use Rattle.omh.proofs.omh_refill.Kinds as omh-refill
 use Rattle.omh.proofs.omh_refill.Reads as omh-refill-says
 use Rattle.omh.proofs.omh_held_answer.Kinds as omh-held-answer
 use Rattle.omh.proofs.omh_held_answer.Reads as omh-held-answer-says
+use Rattle.omh.proofs.omh_books_open.Kinds as omh-books-open
+use Rattle.omh.proofs.omh_books_open.Reads as omh-books-open-says
+use Rattle.omh.proofs.omh_books_enter.Kinds as omh-books-enter
+use Rattle.omh.proofs.omh_books_enter.Reads as omh-books-enter-says
+use Rattle.omh.proofs.omh_books_refill.Kinds as omh-books-refill
+use Rattle.omh.proofs.omh_books_refill.Reads as omh-books-refill-says
 use Rattle.omh.proofs.omh_next_exchange.Kinds as omh-next-exchange
 use Rattle.omh.proofs.omh_next_exchange.Reads as omh-next-exchange-says
 use Rattle.omh.proofs.omh_age.Kinds as omh-age
@@ -45,6 +51,8 @@ use Rattle.omh.proofs.omh_write_frame.Kinds as omh-write-frame
 use Rattle.omh.proofs.omh_write_frame.Reads as omh-write-frame-says
 use Rattle.omh.proofs.omh_enter_frame.Kinds as omh-enter-frame
 use Rattle.omh.proofs.omh_enter_frame.Reads as omh-enter-frame-says
+use Rattle.omh.proofs.omh_books_enter_frame.Kinds as omh-books-enter-frame
+use Rattle.omh.proofs.omh_books_enter_frame.Reads as omh-books-enter-frame-says
 use Rattle.omh.proofs.omh_word_for.Kinds as omh-word-for
 use Rattle.omh.proofs.omh_word_for.Reads as omh-word-for-says
 use Rattle.omh.proofs.omh_answer_for.Kinds as omh-answer-for
@@ -55,6 +63,10 @@ use Rattle.omh.proofs.omh_fill.Kinds as omh-fill
 use Rattle.omh.proofs.omh_fill.Reads as omh-fill-says
 use Rattle.omh.proofs.omh_bound.Kinds as omh-bound
 use Rattle.omh.proofs.omh_bound.Reads as omh-bound-says
+use Rattle.omh.proofs.omh_outcome_start.Kinds as omh-outcome-start
+use Rattle.omh.proofs.omh_outcome_start.Reads as omh-outcome-start-says
+use Rattle.omh.proofs.omh_outcome_set.Kinds as omh-outcome-set
+use Rattle.omh.proofs.omh_outcome_set.Reads as omh-outcome-set-says
 use Rattle.omh.proofs.omh_list.Kinds as omh-list
 use Rattle.omh.proofs.omh_list.Reads as omh-list-says
 
@@ -98,6 +110,15 @@ omh-refill-fixed κs a x y s t p q = ap (λ (o : Outcome ℕ Book). (o .yields, 
 pub omh-held-answer-fixed : Fixes 3 omh-held-answer.ps omh-held-answer.r omh-held-answer-says.Post (Outcome ℕ ℤ) (λ κs x s. outcome x (now (s .1 .1 .0)))
 omh-held-answer-fixed κs a x y s t p q = p ∙ sym q
 
+pub omh-books-open-fixed : Fixes 1 omh-books-open.ps omh-books-open.r omh-books-open-says.Post (Outcome ℕ (List ℤ)) (λ κs x s. outcome x (now (s .1 .1 .1 .1 .0)))
+omh-books-open-fixed κs a x y s t p q = p ∙ sym q
+
+pub omh-books-enter-fixed : Fixes 1 omh-books-enter.ps omh-books-enter.r omh-books-enter-says.Post (Outcome ℕ (List ℤ)) (λ κs x s. outcome x (now (s .1 .1 .1 .1 .0)))
+omh-books-enter-fixed κs a x y s t p q = p ∙ sym q
+
+pub omh-books-refill-fixed : Fixes 1 omh-books-refill.ps omh-books-refill.r omh-books-refill-says.Post (Outcome ℕ (List ℤ)) (λ κs x s. outcome x (now (s .1 .1 .1 .1 .0)))
+omh-books-refill-fixed κs a x y s t p q = p ∙ sym q
+
 pub omh-next-exchange-fixed : Fixes 0 omh-next-exchange.ps omh-next-exchange.r omh-next-exchange-says.Post ℕ (λ κs x s. x)
 omh-next-exchange-fixed κs a x y s t p q = p ∙ sym q
 
@@ -116,6 +137,9 @@ omh-write-frame-fixed κs a x y s t p q = p ∙ sym q
 pub omh-enter-frame-fixed : Fixes 3 omh-enter-frame.ps omh-enter-frame.r omh-enter-frame-says.Post (Outcome ℕ Book) (λ κs x s. outcome x (bookOf (now (s .1 .1 .1 .1 .0)) (now (s .1 .1 .1 .1 .1 .0))))
 omh-enter-frame-fixed κs a x y s t p q = p ∙ sym q
 
+pub omh-books-enter-frame-fixed : Fixes 2 omh-books-enter-frame.ps omh-books-enter-frame.r omh-books-enter-frame-says.Post (Outcome ℕ (List ℤ)) (λ κs x s. outcome x (now (s .1 .1 .1 .1 .0)))
+omh-books-enter-frame-fixed κs a x y s t p q = p ∙ sym q
+
 pub omh-word-for-fixed : Fixes 3 omh-word-for.ps omh-word-for.r omh-word-for-says.Post (Outcome ℕ ℤ) (λ κs x s. outcome x (now (s .1 .1 .1 .1 .1 .1 .1 .1 .0)))
 omh-word-for-fixed κs a x y s t p q = p ∙ sym q
 
@@ -130,6 +154,12 @@ omh-fill-fixed κs a x y s t p q = p ∙ sym q
 
 pub omh-bound-fixed : Fixes 2 omh-bound.ps omh-bound.r omh-bound-says.Post (Outcome ℕ ℤ) (λ κs x s. outcome x (now (s .1 .1 .1 .0)))
 omh-bound-fixed κs a x y s t p q = p ∙ sym q
+
+pub omh-outcome-start-fixed : Fixes 1 omh-outcome-start.ps omh-outcome-start.r omh-outcome-start-says.Post (Outcome ℕ (List ℤ)) (λ κs x s. outcome x (now (s .0)))
+omh-outcome-start-fixed κs a x y s t p q = p ∙ sym q
+
+pub omh-outcome-set-fixed : Fixes 3 omh-outcome-set.ps omh-outcome-set.r omh-outcome-set-says.Post (Outcome ℕ (List ℤ)) (λ κs x s. outcome x (now (s .1 .1 .1 .1 .1 .1 .0)))
+omh-outcome-set-fixed κs a x y s t p q = p ∙ sym q
 
 pub omh-list-fixed : Fixes 2 omh-list.ps omh-list.r omh-list-says.Post (ℕ × List ℕ) (λ κs x s. (x, now (s .1 .0)))
 omh-list-fixed κs a x y s t p q = λ i. ((p .0 ∙ sym (q .0)) i, (p .1 ∙ sym (q .1)) i)

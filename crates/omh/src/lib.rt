@@ -28,9 +28,11 @@ ghost use Rattle.refilling.specs.Refilled.{refillAsked};
 ghost use Rattle.ages.specs.Ages.{nextNumber, ageOf, classOf, classNumber};
 ghost use Rattle.frames.specs.Asked.{readAsked, writeAsked};
 ghost use Rattle.arrivals.specs.Entry.{frameAsked};
+ghost use Rattle.books.specs.Asked.{booksOpenAsked, booksEnterAsked, booksRefillAsked, booksFrameAsked};
 ghost use Rattle.bench.specs.Asked.{answerForAsked, answersAsked};
 ghost use Rattle.dealing.specs.Asked.{wordAsked, fillAsked};
 ghost use Rattle.bound.specs.Bound.{boundAsked};
+ghost use Rattle.outcomes.specs.Asked.{startAsked, listAsked};
 ghost use Rattle.trials.specs.Listing.{textOf};
 ghost use Rattle.omh.specs.Numbers.{rack as rack·, turn as turn·, frameWith, numberOf, numbered, placed, placedAs, bit, fieldsOf};
 
@@ -230,6 +232,37 @@ pub extern "C" fn omh_held_answer(words: &[i32], votes: &[i32], answer: &mut i32
     place(book::held_answer(words, votes), answer)
 }
 
+// ---- the long list
+
+#[no_mangle]
+pub extern "C" fn omh_books_open(n: usize, m: usize, t: usize, p: usize, books: &mut [i32]) -> u8
+    ensures { λ r. ⌜ outcome r (now (books .exit)) ≡ numbered (booksOpenAsked (settings n m t p) (now (books .entry))) ⌝ }
+{
+    number_of(books::open(settings_of(n, m, t, p), books))
+}
+
+#[no_mangle]
+pub extern "C" fn omh_books_enter(
+    n: usize,
+    m: usize,
+    t: usize,
+    p: usize,
+    books: &mut [i32],
+    slot: usize,
+    word: i32,
+) -> u8
+    ensures { λ r. ⌜ outcome r (now (books .exit)) ≡ numbered (booksEnterAsked (settings n m t p) (now (books .entry)) slot word) ⌝ }
+{
+    number_of(books::enter(settings_of(n, m, t, p), books, slot, word))
+}
+
+#[no_mangle]
+pub extern "C" fn omh_books_refill(n: usize, m: usize, t: usize, p: usize, books: &mut [i32]) -> u8
+    ensures { λ r. ⌜ outcome r (now (books .exit)) ≡ numbered (booksRefillAsked (settings n m t p) (now (books .entry))) ⌝ }
+{
+    number_of(books::refill(settings_of(n, m, t, p), books))
+}
+
 // ---- frames
 
 #[no_mangle]
@@ -333,6 +366,21 @@ pub extern "C" fn omh_enter_frame(
     number_of(arrivals::enter(settings_of(n, m, t, p), words, votes, current, frame))
 }
 
+#[no_mangle]
+pub extern "C" fn omh_books_enter_frame(
+    n: usize,
+    m: usize,
+    t: usize,
+    p: usize,
+    books: &mut [i32],
+    current: u16,
+    frame: &[u8],
+) -> u8
+    ensures { λ r. ⌜ outcome r (now (books .exit)) ≡ numbered (booksFrameAsked (settings n m t p) (now (books .entry)) current (now (frame .entry))) ⌝ }
+{
+    number_of(books::enter_frame(settings_of(n, m, t, p), books, current, frame))
+}
+
 // ---- the bench
 
 #[no_mangle]
@@ -422,6 +470,30 @@ pub extern "C" fn omh_bound(n: usize, m: usize, statuses: &[u8], held: &mut i32)
         }
         Bounded::Refused(k) => k,
     }
+}
+
+// ---- the outcome of exchanges
+
+#[no_mangle]
+pub extern "C" fn omh_outcome_start(list: &mut [i32]) -> u8
+    ensures { λ r. ⌜ outcome r (now (list .exit)) ≡ numbered (startAsked (now (list .entry))) ⌝ }
+{
+    number_of(outcomes::start_list(list))
+}
+
+#[no_mangle]
+pub extern "C" fn omh_outcome_set(
+    n: usize,
+    m: usize,
+    t: usize,
+    x: i32,
+    statuses: &[u8],
+    table: &[i32],
+    list: &mut [i32],
+) -> u8
+    ensures { λ r. ⌜ outcome r (now (list .exit)) ≡ numbered (listAsked (turn· n m t) x (now (statuses .entry)) (now (table .entry)) (now (list .entry))) ⌝ }
+{
+    number_of(outcomes::set_in_list(turn_of(n, m, t), x, statuses, table, list))
 }
 
 // ---- listing

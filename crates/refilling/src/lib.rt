@@ -4,13 +4,14 @@ use settings::Settings;
 use vote::REPORTS;
 use words::E;
 ghost use mathlib.Core.Path.{_≡_};
-ghost use Prim.Native.Nat.{_+_};
-ghost use lib.ListN.{length};
+ghost use Prim.Native.Nat.{_+_, _≤_};
+ghost use lib.ListN.{length, take};
 ghost use Rattle.ground.specs.Answer.{outcome, ofDone};
 ghost use Rattle.ground.specs.Lists.{at};
 ghost use Rattle.words.specs.Rule.{omh};
+ghost use Rattle.settings.specs.Settings.{slots};
 ghost use Rattle.vote.specs.Vote.{ruleOf};
-ghost use Rattle.book.specs.Book.{bookOf};
+ghost use Rattle.book.specs.Book.{bookOf, halves};
 ghost use Rattle.refilling.specs.Refilled.{refilledVotes, refillAsked};
 ghost use Rattle.refilling.specs.RefillOrder.{Fills, Refills, Refilling, RefillingMembers, RefillingLast};
 
@@ -22,6 +23,31 @@ pub fn refill(s: Settings, words: &[i32], votes: &mut [i32]) -> Done
         return Done::Refused(no);
     }
     refill_all(s, words, votes);
+    Done::Done
+}
+
+// The words of a book in one list, as the votes are made again: two parts of one list are never lent at once.
+fn words_of(part: &[i32]) -> [i32; Settings::SLOTS]
+    requires { ⌜ slots ≤ length (now part) ⌝ }
+    ensures { λ r. ⌜ r ≡ take slots (now (part .entry)) ⌝ }
+{
+    let mut words = [E; Settings::SLOTS];
+    for k in 0..Settings::SLOTS {
+        words[k] = part[k];
+    }
+    words
+}
+
+// The same of a book in one list.
+pub fn refill_part(s: Settings, part: &mut [i32]) -> Done
+    ensures { λ r. ⌜ outcome (ofDone r) (halves (now (part .exit))) ≡ refillAsked s (halves (now (part .entry))) ⌝ }
+{
+    let no = book::part_refused(s, part);
+    if no != 0 {
+        return Done::Refused(no);
+    }
+    let words = words_of(part);
+    refill_all(s, &words, &mut part[Settings::SLOTS..]);
     Done::Done
 }
 

@@ -8,10 +8,12 @@ use crate::random::Random;
 use crate::settings;
 use crate::words::{word, words};
 use second::exchange::{self, Exchange, PLACES};
+use second::outcome;
 use second::paths::{Settings, CARDS};
 use second::words::{kind, Kind};
 use second::Refusal;
 use std::fmt::Arguments;
+use std::ops::Range;
 
 /// An exchange that both programs are lent.
 pub struct Bench {
@@ -107,14 +109,36 @@ impl Bench {
 
     /// All answers, in a list that holds `before`; yields what it holds then.
     pub fn all_answers(&self, before: &[i32]) -> Result<Vec<i32>, Refusal> {
-        let mut answers = Lent::new(before.to_vec());
-        let number = ffi::all_answers(&self.library(), answers.library_mut());
-        let second = exchange::answers(&self.second(), answers.second_mut());
-        let call = format_args!("all_answers list {before:x?}");
-        self.compare(call, (number, number_of(&second)), &[&answers]);
-        let kept = answers.second() == before;
-        assert!(number == 0 || kept, "{call}: a refusal changed the list");
-        second.map(|()| answers.second().to_vec())
+        self.call("all_answers", before, 0..self.n, ffi::all_answers, exchange::answers)
+    }
+
+    /// The sender's row, in an outcome that holds `before`; yields what it holds then.
+    pub fn set_row(&self, before: &[i32]) -> Result<Vec<i32>, Refusal> {
+        let first = self.t.saturating_mul(CARDS);
+        let row = first..first.saturating_add(CARDS);
+        self.call("outcome_set", before, row, ffi::outcome_set, outcome::set_in_list)
+    }
+
+    /// Makes a call that writes at these places of one list.
+    fn call(
+        &self,
+        name: &str,
+        before: &[i32],
+        places: Range<usize>,
+        library: impl FnOnce(&Exchange, &mut [i32]) -> u8,
+        second: impl FnOnce(&Exchange, &mut [i32]) -> Result<(), Refusal>,
+    ) -> Result<Vec<i32>, Refusal> {
+        let mut list = Lent::new(before.to_vec());
+        let given = self.second();
+        let call = format_args!("{name} {given:x?}");
+        let outcome = list.call(
+            ("list", call),
+            places,
+            |list| library(&self.library(), list),
+            |list| second(&given, list),
+        );
+        self.compare_read(call);
+        outcome.map(|()| list.second().to_vec())
     }
 
     /// A book filled for card p that holds these words and votes before the call; yields
@@ -149,6 +173,11 @@ impl Bench {
         for (place, list) in written.iter().enumerate() {
             list.compare(&format!("written list {place}"), call);
         }
+        self.compare_read(call);
+    }
+
+    /// Compares the lists that a call only reads.
+    fn compare_read(&self, call: Arguments) {
         self.statuses.compare("statuses", call);
         self.table.compare("table", call);
     }

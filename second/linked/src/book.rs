@@ -61,19 +61,13 @@ impl Book {
 
     /// The held answer; `before` is what the lent place holds before the call.
     pub fn held_answer(&self, before: i32) -> Result<i32, Refusal> {
-        let mut answer = Lent::new(vec![before]);
-        let (words, votes) = (&self.words, &self.votes);
-        let place = &mut answer.library_mut()[0];
-        let number = ffi::held_answer(words.library(), votes.library(), place);
-        let second = book::held_answer(words.second(), votes.second());
-        answer.second_mut()[0] = second.unwrap_or(before);
-        let (w, v) = (words.second(), votes.second());
-        let call = format_args!("held_answer words {w:x?} votes {v:x?} place {before:x}");
-        compare(call, number, number_of(&second));
-        answer.compare("answer", call);
-        words.compare("words", call);
-        votes.compare("votes", call);
-        second
+        let Book { words, votes } = self;
+        let (library, second) =
+            ([words.library(), votes.library()], [words.second(), votes.second()]);
+        let answer = held_answer(library, second, before);
+        words.compare("words", format_args!("held_answer"));
+        votes.compare("votes", format_args!("held_answer"));
+        answer
     }
 
     /// The words received, as both programs have them.
@@ -105,4 +99,19 @@ impl Book {
         assert!(number == 0 || kept, "{call}: a refusal changed the book");
         second
     }
+}
+
+/// The held answer of two lists, as the library is lent them and the second program.
+pub fn held_answer(library: [&[i32]; 2], second: [&[i32]; 2], before: i32) -> Result<i32, Refusal> {
+    let mut answer = Lent::new(vec![before]);
+    let [words, votes] = library;
+    let number = ffi::held_answer(words, votes, &mut answer.library_mut()[0]);
+    let [words, votes] = second;
+    let outcome = book::held_answer(words, votes);
+    answer.second_mut()[0] = outcome.unwrap_or(before);
+    let call = format_args!("held_answer words {words:x?} votes {votes:x?} place {before:x}");
+    compare(call, number, number_of(&outcome));
+    answer.compare("answer", call);
+    compare(call, library, second);
+    outcome
 }

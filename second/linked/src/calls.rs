@@ -15,6 +15,8 @@ pub struct Calls {
     pub slot_above: Tally,
     pub is_live: Tally,
     pub vote_at: Tally,
+    pub book: Outcomes,
+    /// The calls on the long list, and the held answers of its parts.
     pub books: Outcomes,
     pub next_exchange: Tally,
     pub age: Tally,
@@ -25,6 +27,8 @@ pub struct Calls {
     pub all_answers: Tally,
     pub fill: Tally,
     pub bound: Tally,
+    pub outcome_start: Tally,
+    pub outcome_set: Tally,
     pub list: Tally,
 }
 
@@ -41,7 +45,8 @@ const FILLING: &[u8] = &[1, 2, 3, 4, 5, 6, 7];
 const ENTERING_A_FRAME: &[u8] = &[1, 2, 3, 4, 5, 8, 9, 10, 11, 12, 13, 14, 15];
 
 impl Calls {
-    /// In the order of host/omh.h, with the refusals that stand there.
+    /// In the order of host/omh.h, with the refusals that stand there. `books, held` is
+    /// held_answer on a part of the long list.
     pub fn rows(&self) -> Vec<Row<'_>> {
         let row = |name, refusals, outcomes| Row { name, refusals, outcomes };
         vec![
@@ -52,20 +57,27 @@ impl Calls {
             row("slot_above", &[8], &self.slot_above),
             row("is_live", SETTINGS, &self.is_live),
             row("vote_at", &[1, 2, 3, 4, 5, 8], &self.vote_at),
-            row("open", SETTINGS_AND_LISTS, &self.books.open),
-            row("enter", &[1, 2, 3, 4, 5, 8], &self.books.enter),
-            row("refill", SETTINGS_AND_LISTS, &self.books.refill),
-            row("held_answer", &[5], &self.books.held_answer),
+            row("open", SETTINGS_AND_LISTS, &self.book.open),
+            row("enter", &[1, 2, 3, 4, 5, 8], &self.book.enter),
+            row("refill", SETTINGS_AND_LISTS, &self.book.refill),
+            row("held_answer", &[5], &self.book.held_answer),
+            row("books_open", SETTINGS_AND_LISTS, &self.books.open),
+            row("books_enter", &[1, 2, 3, 4, 5, 8], &self.books.enter),
+            row("books_refill", SETTINGS_AND_LISTS, &self.books.refill),
+            row("books, held", &[], &self.books.held_answer),
             row("next_exchange", &[], &self.next_exchange),
             row("age, class", &[12, 13], &self.age),
             row("read_frame", &[9, 10, 11, 14], &self.read_frame),
             row("write_frame", &[5, 14], &self.write_frame),
-            row("enter_frame", ENTERING_A_FRAME, &self.books.enter_frame),
+            row("enter_frame", ENTERING_A_FRAME, &self.book.enter_frame),
+            row("books_enter_frame", ENTERING_A_FRAME, &self.books.enter_frame),
             row("word_for", &[1, 2, 3, 4, 5, 6, 7, 8], &self.word_for),
             row("answer_for", FILLING, &self.answer_for),
             row("all_answers", &[1, 2, 3, 5, 6, 7], &self.all_answers),
             row("fill", FILLING, &self.fill),
             row("bound", &[1, 2, 5, 7], &self.bound),
+            row("outcome_start", &[5], &self.outcome_start),
+            row("outcome_set", &[1, 2, 3, 5, 6, 7], &self.outcome_set),
             row("list", &[1, 2, 3, 6, 7, 9, 10, 11, 16], &self.list),
         ]
     }
@@ -110,7 +122,7 @@ impl Calls {
 }
 
 fn table(rows: &[Row], numbers: std::ops::RangeInclusive<u8>, with_totals: bool) -> String {
-    let mut text = format!("{:13}", "call");
+    let mut text = format!("{:17}", "call");
     if with_totals {
         text += &format!(" {:>10} {:>10}", "inputs", "done");
     }
@@ -118,7 +130,7 @@ fn table(rows: &[Row], numbers: std::ops::RangeInclusive<u8>, with_totals: bool)
         let _ = write!(text, " {number:>8}");
     }
     for Row { name, refusals, outcomes } in rows {
-        let _ = write!(text, "\n{name:13}");
+        let _ = write!(text, "\n{name:17}");
         if with_totals {
             let _ = write!(text, " {:>10} {:>10}", outcomes.total(), outcomes.times(0));
         }

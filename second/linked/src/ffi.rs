@@ -71,6 +71,32 @@ extern "C" {
         votes_len: usize,
         answer: *mut i32,
     ) -> u8;
+    fn omh_books_open(
+        n: usize,
+        m: usize,
+        t: usize,
+        p: usize,
+        books: *mut i32,
+        books_len: usize,
+    ) -> u8;
+    fn omh_books_enter(
+        n: usize,
+        m: usize,
+        t: usize,
+        p: usize,
+        books: *mut i32,
+        books_len: usize,
+        slot: usize,
+        word: i32,
+    ) -> u8;
+    fn omh_books_refill(
+        n: usize,
+        m: usize,
+        t: usize,
+        p: usize,
+        books: *mut i32,
+        books_len: usize,
+    ) -> u8;
     fn omh_next_exchange(x: u16) -> u16;
     fn omh_age(current: u16, frame: u16) -> u16;
     fn omh_age_class(current: u16, frame: u16) -> u8;
@@ -96,6 +122,17 @@ extern "C" {
         words_len: usize,
         votes: *mut i32,
         votes_len: usize,
+        current: u16,
+        frame: *const u8,
+        frame_len: usize,
+    ) -> u8;
+    fn omh_books_enter_frame(
+        n: usize,
+        m: usize,
+        t: usize,
+        p: usize,
+        books: *mut i32,
+        books_len: usize,
         current: u16,
         frame: *const u8,
         frame_len: usize,
@@ -158,6 +195,19 @@ extern "C" {
         statuses: *const u8,
         statuses_len: usize,
         held: *mut i32,
+    ) -> u8;
+    fn omh_outcome_start(outcome: *mut i32, outcome_len: usize) -> u8;
+    fn omh_outcome_set(
+        n: usize,
+        m: usize,
+        t: usize,
+        x: i32,
+        statuses: *const u8,
+        statuses_len: usize,
+        table: *const i32,
+        table_len: usize,
+        outcome: *mut i32,
+        outcome_len: usize,
     ) -> u8;
     fn omh_list(file: *const u8, file_len: usize, text: *mut u8) -> usize;
 }
@@ -239,6 +289,23 @@ pub fn held_answer(words: &[i32], votes: &[i32], answer: &mut i32) -> u8 {
     unsafe { omh_held_answer(words.as_ptr(), words.len(), votes.as_ptr(), votes.len(), answer) }
 }
 
+// The books of every sender
+
+pub fn books_open(settings: Settings, books: &mut [i32]) -> u8 {
+    let Settings { n, m, t, p } = settings;
+    unsafe { omh_books_open(n, m, t, p, books.as_mut_ptr(), books.len()) }
+}
+
+pub fn books_enter(settings: Settings, books: &mut [i32], slot: usize, word: i32) -> u8 {
+    let Settings { n, m, t, p } = settings;
+    unsafe { omh_books_enter(n, m, t, p, books.as_mut_ptr(), books.len(), slot, word) }
+}
+
+pub fn books_refill(settings: Settings, books: &mut [i32]) -> u8 {
+    let Settings { n, m, t, p } = settings;
+    unsafe { omh_books_refill(n, m, t, p, books.as_mut_ptr(), books.len()) }
+}
+
 // Frames
 
 pub fn next_exchange(number: u16) -> u16 {
@@ -278,6 +345,13 @@ pub fn enter_frame(
     unsafe {
         omh_enter_frame(n, m, t, p, words, words_len, votes, votes_len, current, frame, frame_len)
     }
+}
+
+pub fn books_enter_frame(settings: Settings, books: &mut [i32], current: u16, frame: &[u8]) -> u8 {
+    let Settings { n, m, t, p } = settings;
+    let (books_len, frame_len) = (books.len(), frame.len());
+    let (books, frame) = (books.as_mut_ptr(), frame.as_ptr());
+    unsafe { omh_books_enter_frame(n, m, t, p, books, books_len, current, frame, frame_len) }
 }
 
 // The bench
@@ -332,6 +406,21 @@ pub fn fill(exchange: &Exchange, p: usize, words: &mut [i32], votes: &mut [i32])
 
 pub fn bound(n: usize, m: usize, statuses: &[u8], held: &mut i32) -> u8 {
     unsafe { omh_bound(n, m, statuses.as_ptr(), statuses.len(), held) }
+}
+
+// The outcome
+
+pub fn outcome_start(outcome: &mut [i32]) -> u8 {
+    unsafe { omh_outcome_start(outcome.as_mut_ptr(), outcome.len()) }
+}
+
+pub fn outcome_set(exchange: &Exchange, outcome: &mut [i32]) -> u8 {
+    let Exchange { n, m, t, x, statuses, table } = *exchange;
+    let (statuses_len, table_len, outcome_len) = (statuses.len(), table.len(), outcome.len());
+    let (statuses, table, outcome) = (statuses.as_ptr(), table.as_ptr(), outcome.as_mut_ptr());
+    unsafe {
+        omh_outcome_set(n, m, t, x, statuses, statuses_len, table, table_len, outcome, outcome_len)
+    }
 }
 
 // Listing

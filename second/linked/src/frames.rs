@@ -132,12 +132,11 @@ fn fields_of(record: &Record) -> [i32; ffi::FIELDS] {
 /// Writes a frame into a buffer that holds `before`; yields what it holds then.
 pub fn write(record: &Record, before: &[u8]) -> Result<Vec<u8>, Refusal> {
     let mut buffer = Lent::new(before.to_vec());
-    let number = ffi::write_frame(record, buffer.library_mut());
-    let second = frames::write(record, buffer.second_mut());
-    let call = format_args!("write_frame {record:x?} buffer {before:02x?}");
-    compare(call, number, number_of(&second));
-    buffer.compare("buffer", call);
-    let kept = buffer.second() == before;
-    assert!(number == 0 || kept, "{call}: a refusal changed the buffer");
-    second.map(|()| buffer.second().to_vec())
+    let outcome = buffer.call(
+        ("buffer", format_args!("write_frame {record:x?}")),
+        0..before.len(),
+        |buffer| ffi::write_frame(record, buffer),
+        |buffer| frames::write(record, buffer),
+    );
+    outcome.map(|()| buffer.second().to_vec())
 }

@@ -1,7 +1,9 @@
 //! Memory lent to both programs.
 
-use crate::compare::compare;
+use crate::compare::{compare, number_of};
+use second::Refusal;
 use std::fmt::{Arguments, Debug};
+use std::ops::Range;
 
 /// Places before and after the library's list that no call may touch.
 const GUARD: usize = 4;
@@ -34,6 +36,27 @@ impl<T: Copy + PartialEq + Debug + From<u8>> Lent<T> {
 
     pub fn second_mut(&mut self) -> &mut [T] {
         &mut self.second
+    }
+
+    /// Makes a call on the list in both programs, and compares the numbers and the lists. One
+    /// that is done changes these places at most, a refused one none.
+    pub fn call(
+        &mut self,
+        (name, call): (&str, Arguments),
+        places: Range<usize>,
+        library: impl FnOnce(&mut [T]) -> u8,
+        second: impl FnOnce(&mut [T]) -> Result<(), Refusal>,
+    ) -> Result<(), Refusal> {
+        let before = self.second.clone();
+        let number = library(self.library_mut());
+        let outcome = second(self.second_mut());
+        let call = format_args!("{call} {name} {before:x?}");
+        compare(call, number, number_of(&outcome));
+        self.compare(name, call);
+        let Range { start, end } = if outcome.is_ok() { places } else { 0..0 };
+        let kept = self.second[..start] == before[..start] && self.second[end..] == before[end..];
+        assert!(kept, "{call}: {name} changed outside {start}..{end}");
+        outcome
     }
 
     /// The two lists are equal, and the guards stand.

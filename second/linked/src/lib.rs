@@ -3,7 +3,7 @@
 //!
 //! `ffi` is the library and `random` the numbers behind every input. The modules named
 //! after a part of document 01 make that part's inputs, good and bad, and compare one call
-//! at a time. A comparison yields what both programs gave, for a test to hold to a number
+//! at a time; `books`, `turns` and `outcome` do so for document 02's Q-1. A comparison yields what both programs gave, for a test to hold to a number
 //! or a `Tally` to count.
 //!
 //! `soak` and `calls` are behind the program soak; `patterns`, `tables`, `trial`, `coverage`,
@@ -11,6 +11,7 @@
 
 pub mod bench;
 pub mod book;
+pub mod books;
 pub mod calls;
 pub mod cells;
 pub mod compare;
@@ -21,6 +22,7 @@ pub mod frames;
 pub mod lent;
 pub mod listing;
 pub mod options;
+pub mod outcome;
 pub mod paths;
 pub mod patterns;
 pub mod progress;
@@ -31,5 +33,6 @@ pub mod soak;
 pub mod tables;
 pub mod tally;
 pub mod trial;
+pub mod turns;
 pub mod vote;
 pub mod words;

@@ -19,7 +19,7 @@ const OTHER_LENGTHS: [[usize; 2]; 6] = [
     [SLOTS - 1, SLOTS + 1],
 ];
 
-/// The outcomes of each call on books.
+/// The outcomes of each call on a book, or on the books of every sender.
 #[derive(Debug, Default)]
 pub struct Outcomes {
     pub open: Tally,
@@ -68,13 +68,8 @@ impl<'a> Run<'a> {
 
     fn enter_frame(&mut self) {
         let (settings, word) = (self.settings(), self.word());
-        let slot = self.slot().min(SLOTS - 1);
-        let mut frame = frame_of(&record_for(settings, self.current, slot, word)).to_vec();
-        if self.random.one_in(4) {
-            for _ in 0..1 + self.random.below(3) {
-                damage(self.random, &mut frame);
-            }
-        }
+        let slot = self.slot();
+        let frame = frame(self.random, settings, self.current, slot, word);
         let outcome = self.book.enter_frame(settings, self.current, &frame);
         self.outcomes.enter_frame.count(outcome);
     }
@@ -118,20 +113,47 @@ impl<'a> Run<'a> {
         }
     }
 
-    /// A live slot; one time in eight any.
     fn slot(&mut self) -> usize {
-        if self.random.one_in(8) {
-            any_slot(self.random)
-        } else {
-            self.random.pick(&self.live)
-        }
+        slot(self.random, &self.live)
     }
 
     fn word(&mut self) -> i32 {
-        if self.random.one_in(8) {
-            word(self.random)
-        } else {
-            self.random.pick(&self.words)
+        word_of(self.random, &self.words)
+    }
+}
+
+/// A live slot; one time in eight any.
+pub(crate) fn slot(random: &mut Random, live: &[usize]) -> usize {
+    if random.one_in(8) {
+        any_slot(random)
+    } else {
+        random.pick(live)
+    }
+}
+
+/// One of these words; one time in eight any.
+pub(crate) fn word_of(random: &mut Random, words: &[i32]) -> i32 {
+    if random.one_in(8) {
+        word(random)
+    } else {
+        random.pick(words)
+    }
+}
+
+/// A frame for a slot, the last one for a number that is none; one time in four damaged.
+pub(crate) fn frame(
+    random: &mut Random,
+    settings: Settings,
+    current: u16,
+    slot: usize,
+    word: i32,
+) -> Vec<u8> {
+    let record = record_for(settings, current, slot.min(SLOTS - 1), word);
+    let mut frame = frame_of(&record).to_vec();
+    if random.one_in(4) {
+        for _ in 0..1 + random.below(3) {
+            damage(random, &mut frame);
         }
     }
+    frame
 }

@@ -35,6 +35,16 @@ pub fn any(random: &mut Random) -> Settings {
     Settings { n, m: rounds(random, cards), t: random.number(cards), p: random.number(cards) }
 }
 
+/// Settings that are refused.
+pub fn refused(random: &mut Random) -> Settings {
+    loop {
+        let settings = any(random);
+        if settings.check().is_err() {
+            return settings;
+        }
+    }
+}
+
 fn rounds(random: &mut Random, cards: usize) -> usize {
     random.number(cards.min(ROUNDS + 1))
 }

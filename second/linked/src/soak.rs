@@ -3,18 +3,23 @@
 
 use crate::bench::{any_statuses, bound, Bench};
 use crate::book::Book;
+use crate::books::Books;
 use crate::calls::Calls;
 use crate::ffi::{FIELDS, TEXT};
 use crate::frames::{self, any_record, frame_of, record_for};
 use crate::lent::Lent;
 use crate::listing::{self, list};
+use crate::outcome::start;
 use crate::paths::{any_path, is_live, settings_refused, slot_above, slot_of};
 use crate::random::{self, Random};
 use crate::runs::Run;
 use crate::settings::{all_rounds, any, any_slot};
+use crate::turns::Turns;
 use crate::vote::vote_at;
 use crate::words::{self, majority, read_wrap_unwrap, word};
+use second::books::BOOKS;
 use second::frames::FRAME_LENGTH;
+use second::outcome::OUTCOME;
 use second::paths::{CARDS, SLOTS};
 use std::any::Any;
 use std::panic::{self, AssertUnwindSafe};
@@ -25,7 +30,7 @@ pub struct Soak {
 }
 
 /// How often each kind of batch comes.
-const MIX: [(usize, fn(&mut Soak)); 10] = [
+const MIX: [(usize, fn(&mut Soak)); 12] = [
     (200, Soak::words),
     (160, Soak::majorities),
     (70, Soak::exchange_numbers),
@@ -34,6 +39,8 @@ const MIX: [(usize, fn(&mut Soak)); 10] = [
     (250, Soak::votes),
     (47, Soak::run),
     (250, Soak::books),
+    (20, Soak::turns),
+    (60, Soak::long_lists),
     (200, Soak::bounds),
     (625, Soak::exchange),
 ];
@@ -149,7 +156,7 @@ impl Soak {
     /// A book entered by slot and by frame, and the other calls on it.
     fn run(&mut self) {
         let rounds = self.random.pick(&all_rounds());
-        let mut run = Run::new(&mut self.random, &mut self.calls.books, rounds);
+        let mut run = Run::new(&mut self.random, &mut self.calls.book, rounds);
         for _ in 0..300 {
             run.enter();
         }
@@ -163,16 +170,42 @@ impl Soak {
             words::words(random, length)
         });
         let [words, votes] = lists;
-        let (mut book, books) = (Book::new(words, votes), &mut self.calls.books);
+        let (mut book, outcomes) = (Book::new(words, votes), &mut self.calls.book);
         for _ in 0..4 {
             let (slot, before) = (any_slot(random), word(random));
-            books.enter.count(book.enter(any(random), slot, before));
-            books.held_answer.count(book.held_answer(before));
-            books.refill.count(book.refill(any(random)));
+            outcomes.enter.count(book.enter(any(random), slot, before));
+            outcomes.held_answer.count(book.held_answer(before));
+            outcomes.refill.count(book.refill(any(random)));
             let (slot, current) = (random.below(1 + CARDS), random.bits() as u16);
             let frame = frame_of(&record_for(any(random), current, slot, before));
-            books.enter_frame.count(book.enter_frame(any(random), current, &frame));
-            books.open.count(book.open(any(random)));
+            outcomes.enter_frame.count(book.enter_frame(any(random), current, &frame));
+            outcomes.open.count(book.open(any(random)));
+        }
+    }
+
+    /// The books of every sender in a mixed run.
+    fn turns(&mut self) {
+        let rounds = self.random.pick(&all_rounds());
+        let mut run = Turns::new(&mut self.random, &mut self.calls.books, rounds);
+        for _ in 0..80 {
+            run.call();
+        }
+    }
+
+    /// Calls on a long list of any length in any settings, and frames for any card's book.
+    fn long_lists(&mut self) {
+        let random = &mut self.random;
+        let length = random.length(BOOKS);
+        let (mut books, outcomes) =
+            (Books::new(words::words(random, length)), &mut self.calls.books);
+        for _ in 0..4 {
+            let (slot, word) = (any_slot(random), word(random));
+            outcomes.enter.count(books.enter(any(random), slot, word));
+            outcomes.refill.count(books.refill(any(random)));
+            let (slot, current) = (random.below(1 + CARDS), random.bits() as u16);
+            let frame = frame_of(&record_for(any(random), current, slot, word));
+            outcomes.enter_frame.count(books.enter_frame(any(random), current, &frame));
+            outcomes.open.count(books.open(any(random)));
         }
     }
 
@@ -195,12 +228,14 @@ impl Soak {
             self.calls.word_for.count(bench.word_for(p, slot, before));
         }
         self.calls.answer_for.count(bench.answer_for(p, word(random)));
-        let lists = [CARDS, SLOTS, SLOTS].map(|right| {
+        let lists = [CARDS, SLOTS, SLOTS, OUTCOME].map(|right| {
             let length = random.length(right);
             words::words(random, length)
         });
         self.calls.all_answers.count(bench.all_answers(&lists[0]));
         self.calls.fill.count(bench.fill(p, &lists[1], &lists[2]));
+        self.calls.outcome_set.count(bench.set_row(&lists[3]));
+        self.calls.outcome_start.count(start(&lists[3]));
         let before = [(); TEXT].map(|()| self.random.byte());
         let file = self.file();
         self.calls.list.count(list(&file, &before));

@@ -2,6 +2,8 @@
 
 #[path = "../../tests/cases/exchanges.rs"]
 mod cases;
+#[path = "../../tests/cases/given.rs"]
+mod given;
 
 use cases::{hold_books, hold_exchanges};
 use linked::bench::{any_statuses, bound, statuses, Bench};
@@ -9,6 +11,7 @@ use linked::random::Random;
 use linked::settings::{all_rounds, any, any_slot, of_rounds};
 use linked::tally::Tally;
 use linked::words::{word, words};
+use second::outcome::OUTCOME;
 use second::paths::{CARDS, SLOTS};
 
 #[test]
@@ -52,6 +55,7 @@ fn every_answer_and_book_of_many_exchanges() {
         for t in (0..n).cycle().take(20) {
             let bench = Bench::good(&mut random, n, m, t);
             outcomes.count(bench.all_answers(&words(&mut random, CARDS)));
+            outcomes.count(bench.set_row(&words(&mut random, OUTCOME)));
             for p in 0..n {
                 outcomes.count(bench.answer_for(p, word(&mut random)));
                 let book = [words(&mut random, SLOTS), words(&mut random, SLOTS)];
@@ -65,24 +69,26 @@ fn every_answer_and_book_of_many_exchanges() {
 #[test]
 fn any_exchanges() {
     let mut random = Random::new("any exchanges");
-    let [mut word_for, mut answer_for, mut all_answers, mut fill] =
-        [(); 4].map(|()| Tally::default());
+    let [mut word_for, mut answer_for, mut all_answers, mut fill, mut set_row] =
+        [(); 5].map(|()| Tally::default());
     for _ in 0..10_000 {
         let (bench, p) = Bench::any(&mut random);
         let slot = any_slot(&mut random);
         word_for.count(bench.word_for(p, slot, word(&mut random)));
         answer_for.count(bench.answer_for(p, word(&mut random)));
-        let [answers, words, votes] = [CARDS, SLOTS, SLOTS].map(|right| {
+        let [answers, words, votes, outcome] = [CARDS, SLOTS, SLOTS, OUTCOME].map(|right| {
             let length = random.length(right);
             words(&mut random, length)
         });
         all_answers.count(bench.all_answers(&answers));
         fill.count(bench.fill(p, &words, &votes));
+        set_row.count(bench.set_row(&outcome));
     }
     word_for.expect(&[0, 1, 2, 3, 4, 5, 6, 7, 8], 100);
     answer_for.expect(&[0, 1, 2, 3, 4, 5, 6, 7], 100);
     all_answers.expect(&[0, 1, 2, 3, 5, 6, 7], 100);
     fill.expect(&[0, 1, 2, 3, 4, 5, 6, 7], 100);
+    set_row.expect(&[0, 1, 2, 3, 5, 6, 7], 100);
 }
 
 /// Every number of faulty cards of each kind among n, in any order.

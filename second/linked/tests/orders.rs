@@ -3,15 +3,19 @@
 
 use linked::bench::{bound, Bench};
 use linked::book::Book;
+use linked::books::Books;
 use linked::compare::number_of;
 use linked::ffi::{FIELDS, TEXT};
 use linked::frames::{frame_of, read, record_for, write};
 use linked::lent::Lent;
 use linked::listing::{list, EXCEPTION, HEAD};
+use linked::outcome::start;
 use linked::paths::{is_live, settings_refused, slot_above, slot_of};
 use linked::vote::vote_at;
+use second::books::BOOKS;
 use second::exchange::PLACES;
 use second::frames::Record;
+use second::outcome::OUTCOME;
 use second::paths::{Settings, CARDS, SLOTS};
 use second::words::E;
 use second::Refusal;
@@ -73,6 +77,10 @@ impl Faults {
         Book::new(vec![6; SLOTS], vec![8; self.choose(LENGTH, SLOTS + 1, SLOTS)])
     }
 
+    fn books(&self) -> Books {
+        Books::new(vec![6; self.choose(LENGTH, BOOKS - 1, BOOKS)])
+    }
+
     /// An exchange with lists of these lengths.
     fn bench(&self, statuses: usize, table: usize) -> Bench {
         let Settings { n, m, t, .. } = self.settings();
@@ -131,6 +139,9 @@ fn votes_and_books() {
     every_set(&order[..5], |faults| faults.book().open(faults.settings()));
     every_set(&order[..5], |faults| faults.book().refill(faults.settings()));
     every_set(&[LENGTH], |faults| faults.book().held_answer(9));
+    every_set(&order, |faults| faults.books().enter(faults.settings(), faults.slot(), 7));
+    every_set(&order[..5], |faults| faults.books().open(faults.settings()));
+    every_set(&order[..5], |faults| faults.books().refill(faults.settings()));
 }
 
 #[test]
@@ -146,6 +157,9 @@ fn frames() {
         let order = [N, M, T, P, LENGTH, FRAME_SIZE, MARK, VERSION, FORM, age, FOREIGN, SLOT];
         every_set(&order, |faults| {
             faults.book().enter_frame(faults.settings(), 0, &faults.frame(0))
+        });
+        every_set(&order, |faults| {
+            faults.books().enter_frame(faults.settings(), 0, &faults.frame(0))
         });
     }
 }
@@ -172,6 +186,18 @@ fn the_bench() {
         let statuses = faults.statuses(faults.choose(LENGTH, CARDS + 1, CARDS));
         bound(faults.settings().n, faults.settings().m, &statuses, 9)
     });
+}
+
+#[test]
+fn the_outcome() {
+    // Any of the three lists may have another length.
+    for wrong in [(CARDS + 1, PLACES, OUTCOME), (CARDS, 0, OUTCOME), (CARDS, PLACES, CARDS)] {
+        every_set(&[N, M, T, LENGTH, STATUS, X], |faults| {
+            let (statuses, table, outcome) = faults.choose(LENGTH, wrong, (CARDS, PLACES, OUTCOME));
+            faults.bench(statuses, table).set_row(&vec![9; outcome])
+        });
+    }
+    every_set(&[LENGTH], |faults| start(&vec![9; faults.choose(LENGTH, OUTCOME + 1, OUTCOME)]));
 }
 
 const SHORT: Fault = ("under 24 bytes", 9);

@@ -41,9 +41,9 @@ fn wrong_command_lines_end_with_2() {
 #[test]
 fn refusals_that_did_not_come_are_named() {
     let mut calls = Calls::default();
-    assert_eq!(calls.missing().len(), 95);
+    assert_eq!(calls.missing().len(), 131);
     calls.bound.add(7);
-    assert_eq!(calls.missing().len(), 94);
+    assert_eq!(calls.missing().len(), 130);
     assert!(calls.unexpected().is_empty());
     calls.bound.add(8);
     assert_eq!(calls.unexpected(), ["bound: 8"]);

@@ -1,24 +1,12 @@
 //! Document 01, "The exchange on the bench": answers, the bound, and books filled.
 
-use second::exchange::{Exchange, PLACES};
+use super::given::{with, Given};
+use second::exchange::Exchange;
 use second::paths::{CARDS, SLOTS};
 use second::words::E;
 use second::Refusal;
 
 const E1: i32 = E + 1;
-
-/// n, m and t; x; the first cards' statuses, the others being good; and what the table has,
-/// by slot and receiver, E elsewhere.
-type Given = ([usize; 3], i32, &'static [u8], &'static [(usize, usize, i32)]);
-
-/// Hands on the exchange that is given.
-fn with<T>((settings, x, first, said): Given, call: impl FnOnce(&Exchange) -> T) -> T {
-    let [n, m, t] = settings;
-    let (mut statuses, mut table) = ([0; CARDS], vec![E; PLACES]);
-    statuses[..first.len()].copy_from_slice(first);
-    said.iter().for_each(|&(slot, receiver, word)| table[CARDS * slot + receiver] = word);
-    call(&Exchange { n, m, t, x, statuses: &statuses, table: &table })
-}
 
 /// Document 01: sender 0 manifest, card 4 arbitrary telling 1, 2, 3 the words 11, 12, 13.
 const AGAINST_ALGORITHM_Z: Given =

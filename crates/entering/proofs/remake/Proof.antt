@@ -1,33 +1,25 @@
 -- `entering::remake` meets its contract: the reading where no rounds are left, else decided over the members' held votes.
 use mathlib.Core.Path.{_≡_, refl, sym, ap, _∙_}
 use borrow.Author.Needs.{needs, sfits-of}
-use denote.Ref.{now}
 use lib.Seq.{length-take-le}
 use Rattle.words.specs.Rule.{omh}
 use Rattle.ground.proofs.Bits.{back, back-is}
-use Rattle.ground.specs.Lists.{at}
 use Rattle.vote.proofs.Gather.{inside, decides}
 use Rattle.entering.proofs.Leaf.{made-last, made-more}
 use Rattle.entering.proofs.remake.Statement.{statement}
 use Rattle.entering.proofs.remake.Tie as tie
 
-mul-read-at : tie.Need-mul-read-at
-mul-read-at c = search needs
-
-copy-out-read-at : tie.Need-shared-slice-copy-out-read-at
-copy-out-read-at c = search needs
-
 read-at-requires : tie.Need-read-at-requires
 read-at-requires c κs = search needs
 
 -- the own reading
-own : (c : tie.After-read-at) → let a = c .before .before .args in back (c .read-at .result) ≡ omh .read (a .d) (at (now (a .words)) (a .k))
-own c = back-is (sfits-of (c .read-at .ok)) ∙ c .read-at .ensures ∙ ap (omh .read _) (back-is (sfits-of (c .before .read-at-arg .given)))
+own : (c : tie.After-read-at) → let a = c .before .args in back (c .read-at .result) ≡ omh .read (a .d) (a .word)
+own c = back-is (sfits-of (c .read-at .ok)) ∙ c .read-at .ensures ∙ ap (omh .read _) (back-is (c .before .fits .word))
 
 returns : tie.Need-returns
 returns c =
     let read = c .before in
-    let a = read .before .before .args in
+    let a = read .before .args in
     own read ∙ sym (made-last omh _ _ _ (a .left) (a .d) (a .k) (c .if1 .taken))
 
 wrap-requires : tie.Need-wrap-requires
@@ -42,7 +34,7 @@ add-gather c = search needs
 gather-requires : tie.Need-gather-requires
 gather-requires c κs =
     let other = c .before .before in
-    let pre = other .before .before .before .pre in
+    let pre = other .before .before .pre in
     (pre .votes-whole, pre .cards, refl, pre .inner (other .if1 .left))
 
 share-prefix : tie.Need-array-share-prefix-reports
@@ -63,7 +55,7 @@ returns-2 c =
     let wrap = gather .before .before in
     let other = wrap .before in
     let read = other .before in
-    let a = read .before .before .args in
+    let a = read .before .args in
     decides omh (gather .gather .ensures)
     (back-is (sfits-of (wrap .wrap .ok)) ∙ wrap .wrap .ensures ∙ ap (omh .wrap) (own read))
     (c .before .majority .ensures)
@@ -73,4 +65,4 @@ returns-2 c =
 pub remake-spec : {M : Type 1} → statement M
 remake-spec =
     tie.close
-    (tie.spec mul-read-at copy-out-read-at read-at-requires returns wrap-requires set-from-reports add-gather gather-requires share-prefix slice-aggregate majority-requires unwrap-requires returns-2)
+    (tie.spec read-at-requires returns wrap-requires set-from-reports add-gather gather-requires share-prefix slice-aggregate majority-requires unwrap-requires returns-2)

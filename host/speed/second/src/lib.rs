@@ -3,11 +3,11 @@
 
 use second::exchange::{self, Exchange};
 use second::paths::Settings;
-use second::{book, frames, listing, vote, words, Refusal};
+use second::{book, books, frames, listing, outcome, vote, words, Refusal};
 use std::slice::{from_raw_parts, from_raw_parts_mut};
 
-fn number(outcome: Result<(), Refusal>) -> u8 {
-    outcome.err().unwrap_or(0)
+fn number(done: Result<(), Refusal>) -> u8 {
+    done.err().unwrap_or(0)
 }
 
 #[no_mangle]
@@ -28,6 +28,24 @@ pub unsafe extern "C" fn second_vote_at(
 ) -> u8 {
     let words = from_raw_parts(words, words_len);
     number(vote::vote_at(Settings { n, m, t, p }, words, slot).map(|word| *vote = word))
+}
+
+#[no_mangle]
+pub unsafe extern "C" fn second_enter(
+    n: usize,
+    m: usize,
+    t: usize,
+    p: usize,
+    words: *mut i32,
+    words_len: usize,
+    votes: *mut i32,
+    votes_len: usize,
+    slot: usize,
+    word: i32,
+) -> u8 {
+    let words = from_raw_parts_mut(words, words_len);
+    let votes = from_raw_parts_mut(votes, votes_len);
+    number(book::enter(Settings { n, m, t, p }, words, votes, slot, word))
 }
 
 #[no_mangle]
@@ -67,6 +85,51 @@ pub unsafe extern "C" fn second_enter_frame(
 }
 
 #[no_mangle]
+pub unsafe extern "C" fn second_books_enter(
+    n: usize,
+    m: usize,
+    t: usize,
+    p: usize,
+    books: *mut i32,
+    books_len: usize,
+    slot: usize,
+    word: i32,
+) -> u8 {
+    let books = from_raw_parts_mut(books, books_len);
+    number(books::enter(Settings { n, m, t, p }, books, slot, word))
+}
+
+#[no_mangle]
+pub unsafe extern "C" fn second_books_refill(
+    n: usize,
+    m: usize,
+    t: usize,
+    p: usize,
+    books: *mut i32,
+    books_len: usize,
+) -> u8 {
+    let books = from_raw_parts_mut(books, books_len);
+    number(books::refill(Settings { n, m, t, p }, books))
+}
+
+#[no_mangle]
+pub unsafe extern "C" fn second_books_enter_frame(
+    n: usize,
+    m: usize,
+    t: usize,
+    p: usize,
+    books: *mut i32,
+    books_len: usize,
+    current: u16,
+    frame: *const u8,
+    frame_len: usize,
+) -> u8 {
+    let books = from_raw_parts_mut(books, books_len);
+    let frame = from_raw_parts(frame, frame_len);
+    number(books::enter_frame(Settings { n, m, t, p }, books, current, frame))
+}
+
+#[no_mangle]
 pub unsafe extern "C" fn second_answer_for(
     n: usize,
     m: usize,
@@ -103,6 +166,25 @@ pub unsafe extern "C" fn second_all_answers(
     let table = from_raw_parts(table, table_len);
     let answers = from_raw_parts_mut(answers, answers_len);
     number(exchange::answers(&Exchange { n, m, t, x, statuses, table }, answers))
+}
+
+#[no_mangle]
+pub unsafe extern "C" fn second_outcome_set(
+    n: usize,
+    m: usize,
+    t: usize,
+    x: i32,
+    statuses: *const u8,
+    statuses_len: usize,
+    table: *const i32,
+    table_len: usize,
+    outcome: *mut i32,
+    outcome_len: usize,
+) -> u8 {
+    let statuses = from_raw_parts(statuses, statuses_len);
+    let table = from_raw_parts(table, table_len);
+    let list = from_raw_parts_mut(outcome, outcome_len);
+    number(outcome::set_in_list(&Exchange { n, m, t, x, statuses, table }, list))
 }
 
 #[no_mangle]

@@ -1,0 +1,27 @@
+-- `omh::omh_books_enter_frame` meets its contract: the call's outcome, its answer as a number.
+use borrow.Author.Needs.{needs}
+use Rattle.omh.proofs.Numbers.{counted}
+use Rattle.omh.proofs.omh_books_enter_frame.Statement.{statement}
+use Rattle.omh.proofs.omh_books_enter_frame.Tie as tie
+
+settings-of-requires : tie.Need-settings-of-requires
+settings-of-requires c κs = search needs
+
+enter-frame-requires : tie.Need-enter-frame-requires
+enter-frame-requires c κs = search needs
+
+number-of-requires : tie.Need-number-of-requires
+number-of-requires c κs = search needs
+
+same-length : tie.Need-same-length
+same-length c = search needs
+
+returns : tie.Need-returns
+returns c =
+    let call = c .before .before in
+    counted (c .number-of .ensures) (rw (call .before .before .settings-of .ensures) at (call .enter-frame .ensures))
+
+pub omh-books-enter-frame-spec : {M : Type 1} → statement M
+omh-books-enter-frame-spec =
+    tie.close
+    (tie.spec settings-of-requires enter-frame-requires number-of-requires same-length returns)

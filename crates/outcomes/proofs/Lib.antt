@@ -1,0 +1,4 @@
+pub mod Asking
+pub mod Runs
+pub mod Flat
+pub mod Fixed
