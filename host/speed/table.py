@@ -34,7 +34,7 @@ BESIDE = ("longword", "word", 1.05), ("longenter", "enter", 1.05), ("longrefill"
 WHY = """
 One card's answer and all answers take no list of words: what the last relay sends is handed down with its path.
 
-Refilling is below C because it reads the last level where it goes through the members, and C's does not."""
+Refilling is below C because it reads the last level where it goes through the members, and C's does not. In the long list it copies the book's 1,111 words first, since two parts of one list cannot be lent at once."""
 
 
 def output(*command):

@@ -19,7 +19,7 @@ ghost use Rattle.entering.specs.Entered.{holds};
 ghost use Rattle.entering.specs.Asked.{enterAsked};
 ghost use Rattle.entering.specs.Remaking.{heldVotes, memberRemade, wayWords, Remakes, Enters, RemadeUp, Admits};
 
-// A path has as many levels above it, itself among them, as there are rounds and one.
+// The most slots on a way up: one for each round of relay, and the sender's.
 const LEVELS: usize = Settings::MAX_ROUNDS + 1;
 
 // Puts the held votes one relay longer than slot k, by each member and read at level d, after the own report, and answers how many reports there are.
@@ -65,7 +65,7 @@ fn remake(
     words::unwrap(words::majority(&reports[..count]))
 }
 
-// The words at a slot and at the three above it, above slot 0 its own again: all that the votes on the way up are made from besides votes.
+// A copy of the words at a slot and at the three above it, above slot 0 its own again: all words that the votes on the way up are made from.
 fn way_words(words: &[i32], slot: usize) -> [i32; LEVELS]
     requires { ⌜ slot < length (now words) ⌝ }
     ensures { λ r. ⌜ r ≡ wayWords (now (words .entry)) slot ⌝ }
@@ -140,7 +140,7 @@ pub fn enter(s: Settings, words: &mut [i32], votes: &mut [i32], slot: usize, wor
     Done::Done
 }
 
-// The same in a book in one list. Two parts of one list are never lent at once: the words on the way are copied, and the votes alone are lent to be written.
+// The same in a book in one list. Two parts of one list cannot be lent at once, so the votes alone are.
 pub fn enter_part(s: Settings, part: &mut [i32], slot: usize, word: i32) -> Done
     ensures { λ r. ⌜ outcome (ofDone r) (halves (now (part .exit))) ≡ enterAsked s (halves (now (part .entry))) slot word ⌝ }
 {

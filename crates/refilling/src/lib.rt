@@ -26,7 +26,7 @@ pub fn refill(s: Settings, words: &[i32], votes: &mut [i32]) -> Done
     Done::Done
 }
 
-// The words of a book in one list, as the votes are made again: two parts of one list are never lent at once.
+// A copy of the words of a book in one list: they cannot be lent while the votes after them are written.
 fn words_of(part: &[i32]) -> [i32; Settings::SLOTS]
     requires { ⌜ slots ≤ length (now part) ⌝ }
     ensures { λ r. ⌜ r ≡ take slots (now (part .entry)) ⌝ }
