@@ -35,7 +35,7 @@ pub enum Carried {
     Refused(u8),
 }
 
-// What a frame's record carries to the book of these settings, where `current` is the exchange number.
+// What a frame's record carries to the book of these settings.
 pub fn entry_of(s: Settings, current: u16, f: Frame) -> Carried
     ensures { λ r. ⌜ ofCarried r ≡ entryAsked s current f ⌝ }
 {
@@ -61,7 +61,7 @@ fn refuse(s: Settings, words: &[i32], votes: &[i32], no: u8) -> Done
     Done::Refused(refusal::first(book::book_refused(s, words, votes), no))
 }
 
-// Enters a frame in a book. Where the frame passes, the book's entering sees to the rest.
+// Enters a frame in a book, where `current` is the exchange number. Where the frame passes, the book's entering sees to the rest.
 pub fn enter(s: Settings, words: &mut [i32], votes: &mut [i32], current: u16, bytes: &[u8]) -> Done
     ensures { λ r. ⌜ outcome (ofDone r) (bookOf (now (words .exit)) (now (votes .exit))) ≡ frameAsked s (bookOf (now (words .entry)) (now (votes .entry))) current (now (bytes .entry)) ⌝ }
 {

@@ -13,7 +13,7 @@ use Rattle.ground.specs.Checks.{Check, verdict}
 use Rattle.ground.specs.Answer.{Answer, Outcome, outcome, answer, after, outcomeBy}
 use Rattle.ground.specs.Lists.{part, withPart}
 use Rattle.ground.proofs.Bools.{holds, and-left, and-right}
-use Rattle.ground.proofs.Parts.{part-back, part-long, part-same, part-other, length-with}
+use Rattle.ground.proofs.Parts.{part-kept, part-back, part-long, part-same, part-other, length-with}
 use Rattle.ground.proofs.Verdicts.{none-verdict, no-verdict, no-verdicts, rest-decides, first-decides, same-first}
 use Rattle.settings.specs.Settings.{settingsChecks}
 use Rattle.settings.specs.declared.Settings.{Settings}
@@ -67,11 +67,7 @@ module _ {t : ℕ} {l : List ℤ} (h : Has t l) where
 
   -- the book that is there leaves the list as it is
   with-same : withBook t l (bookFrom t l) ≡ l
-  unfolding part withPart
-  with-same =
-      ap (λ (p : List ℤ). take (2222 * t) l ++ (p ++ drop 2222 (drop (2222 * t) l))) (take-append-drop 1111 (part 2222 t l))
-      ∙ ap (λ (r : List ℤ). take (2222 * t) l ++ r) (take-append-drop 2222 (drop (2222 * t) l))
-      ∙ take-append-drop (2222 * t) l
+  with-same = ap (withPart 2222 t l) (take-append-drop 1111 (part 2222 t l)) ∙ part-kept 2222 t l
 
   joined-long : (b : Book) → Sized b → length (b .words ++ b .votes) ≡ 2222
   joined-long b z = length-append (b .words) (b .votes) ∙ omega (arith, z .words-long, z .votes-long)

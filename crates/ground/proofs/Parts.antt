@@ -23,6 +23,11 @@ module _ {A : Type 0} (w : ℕ) where
       let long : length (take a l) ≡ a = length-take-le a l h in
       ap (take w) (drop-append-le b (take a l) rest (omega arith)) ∙ take-append-le w (drop b (take a l)) rest (omega (arith, length-drop b (take a l)))
 
+  -- a part replaced by itself leaves the list as it was
+  pub part-kept : (t : ℕ) (l : List A) → withPart w t l (part w t l) ≡ l
+  unfolding part withPart
+  part-kept t l = ap (λ (r : List A). take (w * t) l ++ r) (take-append-drop w (drop (w * t) l)) ∙ take-append-drop (w * t) l
+
   -- ---- part number t lent on, as the w places from its start on, and back with other content
 
   module _ (t : ℕ) (l : List A) {from : ℕ} (e : from ≡ w * t) where

@@ -10,7 +10,7 @@ use borrow.Author.Tests.{eq-eqb, ne-eqb}
 use Rattle.ground.specs.Refusal as refusal
 use Rattle.ground.specs.Checks.{check, verdict, next}
 use Rattle.ground.specs.Answer.{Answer, answer, Outcome, outcome, after, outcomeBy, ofDone}
-use Rattle.ground.specs.Lists.{table}
+use Rattle.ground.specs.Lists.{table, withPart}
 use Rattle.ground.specs.declared.Done.{Done}
 use Rattle.ground.specs.declared.Done.the-variants as done
 use Rattle.ground.proofs.Answers.{value-verdict, refused-verdict, outcome-refused, outcome-done, refused-leaves}
@@ -25,7 +25,6 @@ use Rattle.exchange.specs.Exchange.{Exchange, exchange}
 use Rattle.exchange.specs.Asked.{inputsLong, valueChecks}
 use Rattle.exchange.proofs.Asking.{turn-asked}
 use Rattle.bench.specs.Asked.{answersOf, answersAsked}
-use Rattle.ground.specs.Lists.{withPart}
 use Rattle.outcomes.specs.Rows.{rowOf, outcomeWords}
 use Rattle.outcomes.specs.Asked.{rowFor, rowChecks, rowMade, rowAsked, startAsked, listChecks, listAsked}
 
