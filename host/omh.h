@@ -38,7 +38,7 @@ extern "C" {
 #endif
 
 /* The version of header and archive, stated here alone. */
-#define OMH_VERSION "1.1.0"
+#define OMH_VERSION "1.1.1"
 
 enum {
     OMH_CARDS = 10,     /* the greatest number of cards */
@@ -89,7 +89,7 @@ enum {
     OMH_STACK_HELD_ANSWER = 512,
     OMH_STACK_BOOKS_OPEN = 512,
     OMH_STACK_BOOKS_ENTER = 1024,
-    OMH_STACK_BOOKS_REFILL = 8192,      /* a book's words among them */
+    OMH_STACK_BOOKS_REFILL = 2048,
     OMH_STACK_NEXT_EXCHANGE = 512,
     OMH_STACK_AGE = 512,
     OMH_STACK_AGE_CLASS = 512,

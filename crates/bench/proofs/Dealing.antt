@@ -23,8 +23,8 @@ use Rattle.vote.specs.Vote.{decided, vote}
 use Rattle.vote.specs.Members.{memberVote}
 use Rattle.vote.proofs.Handed.{own-vote, handed-vote}
 use Rattle.exchange.specs.Exchange.{Exchange, exchange, statusOf, sent, dealtAt, dealt, received, answerOf}
-use Rattle.exchange.proofs.Dealing.{dealt-below, at-received}
-use Rattle.exchange.specs.Sending.{sentTo}
+use Rattle.exchange.proofs.Dealing.{sends-first, sends-below, at-received}
+use Rattle.exchange.specs.Sending.{sentTo, Sends}
 use Rattle.bench.specs.Dealing.{dealtVote, dealtVotes}
 
 inner : (r k : ℕ) → k < room (suc r) → k < 111
@@ -36,21 +36,8 @@ module _ (R : Rule) (turn : Turn) (x : ℤ) (statuses : List ℕ) (words : List 
   abbrev X : Exchange
   X = exchange turn x statuses words
 
-  -- a card of this status byte sends on the path at slot k, the word if it is good
-  abbrev Sends : ℕ → ℕ → ℤ → Type 0
-  Sends k status word = (q : ℕ) → sentTo status word words k q ≡ dealt R X k q
-
-  -- the sender, and a relay one slot further
-  sends-first : Sends 0 (getD statuses (turn .t) 0) x
-  unfolding dealtAt level
-  sends-first q = refl
-
-  sends-below : (k d q : ℕ) (status : ℕ) (word : ℤ) → k < 111 → q < 10 → level k ≡ d → Sends k status word → Sends (below k q) (getD statuses q 0) (R .wrap (R .read d (sentTo status word words k q)))
-  sends-below k d q status word h g e s p =
-      rw (← e, s q) (sym (dealt-below R X k q h g p))
-
   module _ (p : ℕ) where
-    sent-vote : (r d k : ℕ) (members : List Bool) (status : ℕ) (word : ℤ) → r + d ≤ 3 → k < room r → level k ≡ d → Sends k status word → dealtVote R statuses words p members r d k status word ≡ memberVote R (received R X p) members r d k
+    sent-vote : (r d k : ℕ) (members : List Bool) (status : ℕ) (word : ℤ) → r + d ≤ 3 → k < room r → level k ≡ d → Sends R X k (statusOf status) word → dealtVote R statuses words p members r d k status word ≡ memberVote R (received R X p) members r d k
     unfolding dealtVote memberVote
     sent-vote zero d k members status word few h e s = ap (R .read d) (s p ∙ sym (at-received R X p k h))
     sent-vote (suc r) d k members status word few h e s =
@@ -60,14 +47,14 @@ module _ (R : Rule) (turn : Turn) (x : ℤ) (statuses : List ℕ) (words : List 
         sent-vote r (d + 1) (below k q) (set members q false) _ _ (omega arith)
         (room-less r k q (omega arith) (rw add-one h) b)
         (level-below k q small b ∙ ap suc e ∙ sym (add-one d))
-        (sends-below k d q status word small b e s)))
+        (sends-below R X d k q (statusOf status) word small e b refl s)))
 
 -- from slot 0, with all cards that may relay and all rounds
 pub dealt-answer : (R : Rule) (s : Settings) (x : ℤ) (statuses : List ℕ) (words : List ℤ) {members : List Bool} {left : ℕ} → s .rack .m ≤ 3 → members ≡ table 10 0 (mayRelay s) → left ≡ roundsLeft s 0 → dealtVote R statuses words (s .p) members left 0 0 (getD statuses (s .t) 0) x ≡ answerOf R (exchange (turnOf s) x statuses words) (s .p)
 unfolding answerOf level
 dealt-answer R s x statuses words {members} {left} few e f =
     let X = exchange (turnOf s) x statuses words in
-    sent-vote R (turnOf s) x statuses words (s .p) left 0 0 members _ x (omega (arith, left-few s 0)) (room-zero left) refl (sends-first R (turnOf s) x statuses words)
+    sent-vote R (turnOf s) x statuses words (s .p) left 0 0 members _ x (omega (arith, left-few s 0)) (room-zero left) refl (sends-first R X)
     ∙ rw (f, e, first-members s) (go (received R X (s .p)) (ℕ-discrete (s .p) (s .t)))
   where
     go : (ws : List ℤ) → Dec (s .p ≡ s .t) → memberVote R ws (membersOf s 0) (roundsLeft s 0) 0 0 ≡ vote R s ws 0

@@ -61,7 +61,7 @@ fn vote_dealt(
     )
 }
 
-// Decides the vote from the own reading and the votes of the longer paths, by each member in turn.
+// Decides the vote from the own reading and the votes of the longer paths, by each member in turn. A struck report is left out: the next takes its place.
 fn over_dealt(
     statuses: &[u8],
     table: &[i32],
@@ -75,21 +75,20 @@ fn over_dealt(
     word: i32,
 ) -> i32
     requires { ⌜ Dealing (now statuses) (now table) p (now members) (left + 1) d k ⌝ }
+    requires { ⌜ own ≡ omh .read d (sentTo status word (now table) k p) ⌝ }
     ensures { λ r. ⌜ (r ≡ decided omh own (dealtVotes omh (now (statuses .entry)) (now (table .entry)) p (now (members .entry)) left d k status word 10)) × (now (members .exit) ≡ now (members .entry)) ⌝ }
 {
     let mut reports = [E; REPORTS];
-    reports[0] = words::wrap(own);
-    let mut count: usize = 1;
+    let wrapped = words::wrap(own);
+    reports[0] = wrapped;
+    let mut count = words::weight(wrapped);
     for q in 0..Settings::MAX_CARDS {
         if members[q] {
             members[q] = false;
             let sender = statuses[q];
-            // Only a good card's word is looked at.
-            let sends = if sender == 0 {
-                exchange::relayed(d, sent_to(status, word, table, k, q))
-            } else {
-                E
-            };
+            let received = sent_to(status, word, table, k, q);
+            // The own report is what a good relay sends on, unless the card that it heard is arbitrary.
+            let sends = exchange::sent_on(status, sender, d, received, wrapped);
             let vote = vote_dealt(
                 statuses,
                 table,
@@ -103,10 +102,10 @@ fn over_dealt(
             );
             members[q] = true;
             reports[count] = vote;
-            count += 1;
+            count += words::weight(vote);
         }
     }
-    words::unwrap(words::majority(&reports[..count]))
+    words::decide(&reports[..count])
 }
 
 // The answer of the own card, of settings that are not refused.

@@ -1,2 +1,3 @@
+pub mod DealOrder
 pub mod Filling
 pub mod Fixed

@@ -1,2 +1,3 @@
 pub mod Dealt
 pub mod Asked
+pub mod DealOrder

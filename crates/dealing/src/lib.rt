@@ -4,7 +4,7 @@ use ground::Told;
 use ground::refusal;
 use settings::Settings;
 ghost use mathlib.Core.Path.{_≡_};
-ghost use Prim.Native.Nat.{_≤_, _<_};
+ghost use Prim.Native.Nat.{_+_, _≤_, _<_};
 ghost use lib.ListN.{length};
 ghost use Rattle.ground.specs.Answer.{outcome, ofTold, ofDone};
 ghost use Rattle.words.specs.Rule.{omh};
@@ -15,6 +15,7 @@ ghost use Rattle.book.specs.Book.{bookOf};
 ghost use Rattle.exchange.specs.Exchange.{exchange, dealt};
 ghost use Rattle.exchange.specs.Sending.{Deals};
 ghost use Rattle.dealing.specs.Dealt.{dealtOver};
+ghost use Rattle.dealing.specs.DealOrder.{DealsFrom, DealtFrom, DealtBelow};
 ghost use Rattle.dealing.specs.Asked.{wordAsked, fillAsked};
 
 // The word that card p receives at slot k.
@@ -50,18 +51,104 @@ pub fn word_for(s: Settings, x: i32, statuses: &[u8], table: &[i32], slot: usize
     Told::Word(dealt_at(s.t, x, statuses, table, slot, s.p))
 }
 
-// Deals the words of the own card at its live slots.
+// Deals card p its word at slot k of level d, on which a card of this status sends, `word` if it is good, after its words at the longer paths. So many rounds are left; `members` are the cards that may still relay.
+fn deal_from(
+    statuses: &[u8],
+    table: &[i32],
+    p: usize,
+    words: &mut [i32],
+    members: &mut [bool; Settings::MAX_CARDS],
+    left: usize,
+    d: usize,
+    k: usize,
+    status: u8,
+    word: i32,
+)
+    requires { ⌜ DealsFrom (now statuses) (now table) p (now words) (now members) left d k ⌝ }
+    ensures { λ r. ⌜ DealtFrom omh (now (statuses .entry)) (now (table .entry)) p (now (members .entry)) left d k status word (now (words .entry)) (now (words .exit)) (now (members .exit)) ⌝ }
+{
+    if 0 < left {
+        deal_members(
+            statuses,
+            table,
+            p,
+            words,
+            members,
+            left - 1,
+            d,
+            k,
+            status,
+            word,
+        );
+    }
+    words[k] = exchange::sent_by(status, word, table[10 * k + p], table[10 * k]);
+}
+
+// Deals card p its words at the longer paths, by each member in turn, with so many rounds left for each.
+fn deal_members(
+    statuses: &[u8],
+    table: &[i32],
+    p: usize,
+    words: &mut [i32],
+    members: &mut [bool; Settings::MAX_CARDS],
+    left: usize,
+    d: usize,
+    k: usize,
+    status: u8,
+    word: i32,
+)
+    requires { ⌜ DealsFrom (now statuses) (now table) p (now words) (now members) (left + 1) d k ⌝ }
+    ensures { λ r. ⌜ DealtBelow omh (now (statuses .entry)) (now (table .entry)) p (now (members .entry)) left d k status word (now (words .entry)) 10 (now (words .exit)) (now (members .exit)) ⌝ }
+{
+    let first = table[10 * k];
+    let told = exchange::relayed(d, exchange::sent_by(status, word, first, first));
+    for q in 0..Settings::MAX_CARDS {
+        if members[q] {
+            members[q] = false;
+            let sender = statuses[q];
+            let received = exchange::sent_by(status, word, table[10 * k + q], first);
+            deal_from(
+                statuses,
+                table,
+                p,
+                words,
+                members,
+                left,
+                d + 1,
+                10 * k + 1 + q,
+                sender,
+                exchange::sent_on(status, sender, d, received, told),
+            );
+            members[q] = true;
+        }
+    }
+}
+
+// Deals the words of the own card at its live slots. Slot 0 is dealt here: called by the loop alone, `deal_from` folds into it.
 fn deal(s: Settings, x: i32, statuses: &[u8], table: &[i32], words: &mut [i32])
     requires { ⌜ Deals (s .t) (now statuses) (now table) × (s .rack .m ≤ 3) × (s .p < 10) × (length (now words) ≡ slots) ⌝ }
     ensures { λ r. ⌜ now (words .exit) ≡ dealtOver (ruleOf (s .rack)) (exchange (turnOf s) x (now (statuses .entry)) (now (table .entry))) (s .p) (now (words .entry)) ⌝ }
 {
-    let relays = paths::may_relay(s);
-    for k in 0..Settings::SLOTS {
-        let mut members = relays;
-        if paths::live_in(s, &mut members, k) {
-            words[k] = dealt_at(s.t, x, statuses, table, k, s.p);
-        }
+    let mut members = paths::may_relay(s);
+    let left = paths::rounds_left(s, 0);
+    let t = s.t;
+    let p = s.p;
+    let status = statuses[t];
+    if 0 < left {
+        deal_members(
+            statuses,
+            table,
+            p,
+            words,
+            &mut members,
+            left - 1,
+            0,
+            0,
+            status,
+            x,
+        );
     }
+    words[0] = exchange::sent_by(status, x, table[p], table[0]);
 }
 
 // Fills a book for the own card.

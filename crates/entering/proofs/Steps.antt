@@ -2,13 +2,13 @@
 use Prim.Native.Nat.{ℕ, zero, suc, _+_, _-_, _≤_, _<_}
 use mathlib.Core.Path.{_≡_, refl, sym, ap, _∙_, subst}
 use mathlib.Core.Bool.{Bool, true, false}
-use mathlib.Core.List.{List}
+use mathlib.Core.List.{List, _∷_}
 use native.Mathlib.Omega.{arith}
 use native.Mathlib.Numerals.{add-one}
 use native.Mathlib.Decide.{ℕ-discrete}
 use lib.Dec.{T}
 use lib.IntN.{ℤ, pos}
-use lib.ListN.{length, set, take, length-set}
+use lib.ListN.{length, set, take, drop, length-set}
 use lib.Seq.{getD-set-same, getD-set-other, getD-take}
 use Rattle.ground.specs.Lists.{at}
 use Rattle.ground.proofs.Bools.{T-eq}
@@ -18,14 +18,14 @@ use Rattle.settings.specs.Settings.{slots}
 use Rattle.settings.specs.declared.Settings.{Settings}
 use Rattle.paths.specs.Slots.{above, lastRelay, level, wayBy, way, live, lengthens, roundsLeft}
 use Rattle.paths.specs.Walk.{may}
-use Rattle.paths.proofs.Levels.{level-0, level-pos, level-above, below-above, way-cons}
+use Rattle.paths.proofs.Levels.{level-pos, level-above, below-above, way-cons}
 use Rattle.paths.proofs.Live.{live-slot, live-level, live-own, live-above, below-lengthens}
 use Rattle.paths.proofs.Members.{none-next}
-use Rattle.paths.proofs.Handed.{Handed, handed-table, left-other, left-few}
-use Rattle.vote.specs.Vote.{ruleOf}
+use Rattle.paths.proofs.Handed.{Handed, handed-table, left-other}
+use Rattle.vote.specs.Vote.{ruleOf, decided}
 use Rattle.entering.specs.Entered.{remade, remadeAlong}
-use Rattle.entering.specs.Remaking.{memberRemade, wayWords, Remakes, Enters}
-use Rattle.entering.proofs.Leaf.{left-inner, remade-handed}
+use Rattle.entering.specs.Remaking.{heldVotes, memberRemade, wayWords, Remakes, Enters}
+use Rattle.entering.proofs.Leaf.{left-inner, made-more, remade-handed}
 
 -- ---- one step up
 
@@ -33,13 +33,16 @@ use Rattle.entering.proofs.Leaf.{left-inner, remade-handed}
 up-live : (s : Settings) (k : ℕ) → T (live s k) → 0 < k → T (live s (above k))
 up-live s k t p = let (d, e) = level-pos k (live-slot s k t) p in live-above s k d t e
 
-along-step : (R : Rule) (s : Settings) (ws vs : List ℤ) (k : ℕ) → k < 1111 → 0 < k → {v : ℤ} → v ≡ remade R s ws vs k → remadeAlong R s ws (way (above k)) (set vs k v) ≡ remadeAlong R s ws (way k) vs
-unfolding remadeAlong
-along-step R s ws vs k h p e = rw (way-cons k h p, e)
+-- a way begins at its slot
+way-first : (d k : ℕ) → wayBy d k ≡ k ∷ drop 1 (wayBy d k)
+unfolding wayBy
+way-first zero k = refl
+way-first (suc d) k = refl
 
-along-top : (R : Rule) (s : Settings) (ws vs : List ℤ) {v : ℤ} → v ≡ remade R s ws vs 0 → set vs 0 v ≡ remadeAlong R s ws (way 0) vs
-unfolding remadeAlong wayBy level
-along-top R s ws vs e = rw e
+-- the votes re-made from slot k up, once its own is
+along-step : (R : Rule) (s : Settings) (ws vs : List ℤ) (k : ℕ) {v : ℤ} → v ≡ remade R s ws vs k → remadeAlong R s ws (drop 1 (way k)) (set vs k v) ≡ remadeAlong R s ws (way k) vs
+unfolding remadeAlong
+along-step R s ws vs k e = rw e (ap (λ (l : List ℕ). remadeAlong R s ws l vs) (sym (way-first (level k) k)))
 
 -- the last relay may lengthen the path above, and the others go on as before
 handed-above : (s : Settings) (members : List Bool) (k : ℕ) → length members ≡ 10 → T (live s k) → 0 < k → Handed s members k → Handed s (set members (lastRelay k) true) (above k)
@@ -88,80 +91,100 @@ way-front n l k h = rw (first k h, first (above k) (omega arith), first (above (
 
 -- ---- the walk
 
--- the walk from `slot`, with the words on its way, has come to k in i steps: what is handed on belongs to k, and what is left to re-make is the way up from k
-pub record Climbs (s : Settings) (words votes₀ : List ℤ) (slot : ℕ) (votes : List ℤ) (members : List Bool) (left d k i : ℕ) : Type 0 where
+-- the walk from `slot`, with the words on its way, has come to k in i steps and re-made the vote there: what is handed on belongs to k, and what is left to re-make is the way above k
+pub record Climbs (s : Settings) (words votes₀ : List ℤ) (slot : ℕ) (votes : List ℤ) (members : List Bool) (d k i : ℕ) : Type 0 where
   pub few : s .rack .m ≤ 3
   pub votes-whole : length votes ≡ slots
   pub alive : T (live s k)
   pub cards : length members ≡ 10
   pub handed : Handed s members k
-  pub rounds : left ≡ roundsLeft s (level k)
   pub deep : d ≡ level k
   pub short : i + d ≤ 3
   pub above-by : k ≡ up i slot
-  pub same : (all : List ℤ) → words ≡ wayWords all slot → remadeAlong (ruleOf (s .rack)) s all (way k) votes ≡ remadeAlong (ruleOf (s .rack)) s all (way slot) votes₀
+  pub same : (all : List ℤ) → words ≡ wayWords all slot → remadeAlong (ruleOf (s .rack)) s all (drop 1 (way k)) votes ≡ remadeAlong (ruleOf (s .rack)) s all (way slot) votes₀
 
--- it begins with what the slot's path has
-pub climb-first : {s : Settings} {ws vs : List ℤ} {members : List Bool} {slot left d : ℕ} → Enters s vs members slot → d ≡ level slot → left ≡ roundsLeft s d → Climbs s ws vs slot vs members left d slot 0
-climb-first {s} {slot = k} a g e = rw (e, a .here, g) (record {
-  few = a .few;
-  votes-whole = a .votes-whole;
-  alive = a .alive;
-  cards = length-table 10 0 (lengthens s k);
-  handed = handed-table s k;
-  rounds = refl;
-  deep = refl;
-  short = omega (arith, a .few, live-level s k (a .alive));
-  above-by = refl;
-  same = λ all e. refl;
-})
+module _ {s : Settings} {vs : List ℤ} {members : List Bool} {slot left d : ℕ} (a : Enters s vs members slot) (g : d ≡ level slot) (e : left ≡ roundsLeft s d) where
+  rounds : left ≡ roundsLeft s (level slot)
+  rounds = e ∙ ap (roundsLeft s) g
 
-module _ {s : Settings} {ws vs₀ : List ℤ} {slot : ℕ} {vs : List ℤ} {members : List Bool} {left d k i : ℕ} (c : Climbs s ws vs₀ slot vs members left d k i) where
-  -- what the re-making at k is asked
-  pub climb-asks : Remakes vs members left d k
-  climb-asks = record {
-    votes-whole = c .votes-whole;
-    cards = c .cards;
-    deep = omega (arith, c .short);
-    slot = live-slot s k (c .alive);
-    inner = λ n. left-inner s k (c .few) (c .alive) (λ z. n (c .rounds ∙ z));
+  -- what the re-making at the entered slot is asked
+  pub first-asks : Remakes vs members left d slot
+  first-asks = record {
+    votes-whole = a .votes-whole;
+    cards = ap length (a .here) ∙ length-table 10 0 (lengthens s slot);
+    deep = omega (arith, g, a .few, live-level s slot (a .alive));
+    slot = live-slot s slot (a .alive);
+    inner = λ n. left-inner s slot (a .few) (a .alive) (λ z. n (rounds ∙ z));
   }
 
-  -- and gives, of the word at k
-  climb-gives : {v w : ℤ} → v ≡ memberRemade (ruleOf (s .rack)) w vs members left d k → w ≡ at ws i → (all : List ℤ) → ws ≡ wayWords all slot → v ≡ remade (ruleOf (s .rack)) s all vs k
-  climb-gives e f all g =
-      let own = f ∙ ap (λ (l : List ℤ). at l i) g ∙ way-at all slot i (omega (arith, c .short)) ∙ ap (at all) (sym (c .above-by)) in
-      e
-      ∙ ap (λ (w : ℤ). memberRemade (ruleOf (s .rack)) w vs members left d k) own
-      ∙ remade-handed (ruleOf (s .rack)) s all vs members left d k (c .few) (c .alive) (c .handed) (c .rounds) (c .deep)
+  -- the walk begins with its vote, and with what the slot's path has
+  pub climb-first : {ws : List ℤ} {v w : ℤ} → v ≡ memberRemade (ruleOf (s .rack)) w vs members left d slot → w ≡ at ws 0 → Climbs s ws vs slot (set vs slot v) members d slot 0
+  climb-first {v = v} made own = record {
+    few = a .few;
+    votes-whole = length-set vs slot v ∙ a .votes-whole;
+    alive = a .alive;
+    cards = first-asks .cards;
+    handed = handed;
+    deep = g;
+    short = omega (arith, g, a .few, live-level s slot (a .alive));
+    above-by = refl;
+    same = λ all f. along-step (ruleOf (s .rack)) s all vs slot
+        (made
+        ∙ ap (λ (w : ℤ). memberRemade (ruleOf (s .rack)) w vs members left d slot) (own ∙ ap (λ (l : List ℤ). at l 0) f ∙ way-at all slot 0 (omega arith))
+        ∙ remade-handed (ruleOf (s .rack)) s all vs members left d slot (a .few) (a .alive) handed rounds g);
+  }
+    where
+      handed : Handed s members slot
+      handed = rw (a .here) (handed-table s slot)
 
-  pub climb-few : left ≤ 3
-  climb-few = omega (arith, c .rounds, c .few, left-few s (level k))
-
+module _ {s : Settings} {ws vs₀ : List ℤ} {slot : ℕ} {vs : List ℤ} {members : List Bool} {d k i : ℕ} (c : Climbs s ws vs₀ slot vs members d k i) where
   pub climb-level : 0 < k → 0 < d
   climb-level p = let (e, f) = level-pos k (live-slot s k (c .alive)) p in omega (arith, c .deep)
 
-  pub climb-more : 0 < k → {v w : ℤ} {q j : ℕ} → v ≡ memberRemade (ruleOf (s .rack)) w vs members left d k → w ≡ at ws i → q ≡ lastRelay k → j ≡ above k → Climbs s ws vs₀ slot (set vs k v) (set members q true) (left + 1) (d - 1) j (i + 1)
-  climb-more p {v} e f last next = rw (last, next) (record {
-    few = c .few;
-    votes-whole = length-set vs k v ∙ c .votes-whole;
-    alive = up-live s k (c .alive) p;
-    cards = length-set members (lastRelay k) true ∙ c .cards;
-    handed = handed-above s members k (c .cards) (c .alive) p (c .handed);
-    rounds = ap (λ (r : ℕ). r + 1) (c .rounds) ∙ sym (left-above s k (c .alive) p);
-    deep = let (f, g) = level-pos k (live-slot s k (c .alive)) p in omega (arith, c .deep, level-above k f (live-slot s k (c .alive)) g);
-    short = omega (arith, c .short, climb-level p);
-    above-by = ap above (c .above-by) ∙ ap (λ (j : ℕ). up j slot) (sym (add-one i));
-    same = λ all g. along-step (ruleOf (s .rack)) s all vs k (live-slot s k (c .alive)) p (climb-gives e f all g) ∙ c .same all g;
-  })
+  -- one step up: the vote there is decided from its word and the held votes
+  module _ (p : 0 < k) {q j : ℕ} (last : q ≡ lastRelay k) (next : j ≡ above k) where
+    abbrev members′ : List Bool
+    members′ = set members (lastRelay k) true
 
--- at slot 0 the level is 0
-pub climb-top : {s : Settings} {ws vs₀ : List ℤ} {slot : ℕ} {vs : List ℤ} {members : List Bool} {left d k i : ℕ} → k ≤ 0 → Climbs s ws vs₀ slot vs members left d k i → Climbs s ws vs₀ slot vs members left 0 0 i
-climb-top {s} {ws} {vs₀} {slot} {vs} {members} {left} {d} {k} {i} h c =
-    let z : k ≡ 0 = omega arith in
-    let e : Climbs s ws vs₀ slot vs members left d 0 i = rw z at c in
-    let f : d ≡ 0 = e .deep ∙ level-0 0 (omega arith) in
-    rw f at e
+    -- what is asked of the votes and cards
+    pub climb-asks : (length vs ≡ slots) × (length (set members q true) ≡ 10) × (j < 111)
+    climb-asks = (c .votes-whole, length-set members q true ∙ c .cards, omega (arith, next, live-slot s k (c .alive)))
 
-pub climb-done : {s : Settings} {ws vs₀ : List ℤ} {slot : ℕ} {vs : List ℤ} {members : List Bool} {left i : ℕ} → Climbs s ws vs₀ slot vs members left 0 0 i → {v w : ℤ} → v ≡ memberRemade (ruleOf (s .rack)) w vs members left 0 0 → w ≡ at ws i → (all : List ℤ) → ws ≡ wayWords all slot → set vs 0 v ≡ remadeAlong (ruleOf (s .rack)) s all (way slot) vs₀
-climb-done {s} {vs = vs} c e f all g = along-top (ruleOf (s .rack)) s all vs (climb-gives c e f all g) ∙ c .same all g
+    level-up : d - 1 ≡ level (above k)
+    level-up = let (f, g) = level-pos k (live-slot s k (c .alive)) p in omega (arith, c .deep, level-above k f (live-slot s k (c .alive)) g)
+
+    handed-up : Handed s members′ (above k)
+    handed-up = handed-above s members k (c .cards) (c .alive) p (c .handed)
+
+    above-up : above k ≡ up (i + 1) slot
+    above-up = ap above (c .above-by) ∙ ap (λ (j : ℕ). up j slot) (sym (add-one i))
+
+    -- the vote there is the one made again
+    gives : {v own w : ℤ} → v ≡ decided (ruleOf (s .rack)) own (heldVotes (ruleOf (s .rack)) vs members′ (d - 1 + 1) (above k) 10) → own ≡ ruleOf (s .rack) .read (d - 1) w → w ≡ at ws (i + 1) → (all : List ℤ) → ws ≡ wayWords all slot → v ≡ remade (ruleOf (s .rack)) s all vs (above k)
+    gives {w = w} e read f all g =
+        let R = ruleOf (s .rack) in
+        let left = roundsLeft s (level (above k)) in
+        let word = f ∙ ap (λ (l : List ℤ). at l (i + 1)) g ∙ way-at all slot (i + 1) (omega (arith, c .short, climb-level p)) ∙ ap (at all) (sym above-up) in
+        e
+        ∙ ap (λ (own : ℤ). decided R own (heldVotes R vs members′ (d - 1 + 1) (above k) 10)) read
+        ∙ sym (made-more R w vs members′ left (d - 1) (above k) (λ z. omega (arith, z, left-above s k (c .alive) p)))
+        ∙ ap (λ (w : ℤ). memberRemade R w vs members′ left (d - 1) (above k)) word
+        ∙ remade-handed R s all vs members′ left (d - 1) (above k) (c .few) (up-live s k (c .alive) p) handed-up refl level-up
+
+    pub climb-more : {v own w : ℤ} → v ≡ decided (ruleOf (s .rack)) own (heldVotes (ruleOf (s .rack)) vs (set members q true) (d - 1 + 1) j 10) → own ≡ ruleOf (s .rack) .read (d - 1) w → w ≡ at ws (i + 1) → Climbs s ws vs₀ slot (set vs j v) (set members q true) (d - 1) j (i + 1)
+    climb-more {v} e read f = rw (last, next) (record {
+      few = c .few;
+      votes-whole = length-set vs (above k) v ∙ c .votes-whole;
+      alive = up-live s k (c .alive) p;
+      cards = length-set members (lastRelay k) true ∙ c .cards;
+      handed = handed-up;
+      deep = level-up;
+      short = omega (arith, c .short, climb-level p);
+      above-by = above-up;
+      same = λ all g. along-step (ruleOf (s .rack)) s all vs (above k) (gives (rw (last, next) at e) read f all g) ∙ ap (λ (l : List ℕ). remadeAlong (ruleOf (s .rack)) s all (drop 1 l) vs) (sym (way-cons k (live-slot s k (c .alive)) p)) ∙ c .same all g;
+    })
+
+  -- at slot 0 nothing is left to re-make
+  pub climb-done : k ≤ 0 → (all : List ℤ) → ws ≡ wayWords all slot → vs ≡ remadeAlong (ruleOf (s .rack)) s all (way slot) vs₀
+  unfolding remadeAlong wayBy level
+  climb-done h all g = let z : k ≡ 0 = omega arith in rw z at (c .same all g)

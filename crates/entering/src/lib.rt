@@ -5,15 +5,14 @@ use settings::Settings;
 use vote::REPORTS;
 use words::E;
 ghost use mathlib.Core.Path.{_≡_};
-ghost use mathlib.Core.List.{_∷_};
 ghost use Prim.Native.Nat.{_<_};
 ghost use lib.ListN.{length};
 ghost use Rattle.ground.specs.Answer.{outcome, ofDone};
-ghost use Rattle.ground.specs.Lists.{at, table};
+ghost use Rattle.ground.specs.Lists.{table};
 ghost use Rattle.words.specs.Rule.{omh};
 ghost use Rattle.settings.specs.Settings.{mostCards, slots};
 ghost use Rattle.paths.specs.Slots.{mayRelay};
-ghost use Rattle.vote.specs.Members.{Reports};
+ghost use Rattle.vote.specs.Vote.{decided};
 ghost use Rattle.book.specs.Book.{bookOf, halves};
 ghost use Rattle.entering.specs.Entered.{holds};
 ghost use Rattle.entering.specs.Asked.{enterAsked};
@@ -22,25 +21,29 @@ ghost use Rattle.entering.specs.Remaking.{heldVotes, memberRemade, wayWo
 // The most slots on a way up: one for each round of relay, and the sender's.
 const LEVELS: usize = Settings::MAX_ROUNDS + 1;
 
-// Puts the held votes one relay longer than slot k, by each member and read at level d, after the own report, and answers how many reports there are.
-fn gather(
+// Decides the vote at slot k from its own reading and the held votes one relay longer, by each member and read at level d. A struck report is left out: the next takes its place.
+fn over_held(
     votes: &[i32],
     members: &[bool; Settings::MAX_CARDS],
-    reports: &mut [i32; REPORTS],
+    own: i32,
     d: usize,
     k: usize,
-) -> usize
-    requires { ⌜ (length (now votes) ≡ slots) × (length (now members) ≡ 10) × (length (now reports) ≡ 11) × (k < 111) ⌝ }
-    ensures { λ r. ⌜ Reports (now (reports .exit)) r (at (now (reports .entry)) 0 ∷ heldVotes omh (now (votes .entry)) (now (members .entry)) d k 10) ⌝ }
+) -> i32
+    requires { ⌜ (length (now votes) ≡ slots) × (length (now members) ≡ 10) × (k < 111) ⌝ }
+    ensures { λ r. ⌜ r ≡ decided omh own (heldVotes omh (now (votes .entry)) (now (members .entry)) d k 10) ⌝ }
 {
-    let mut count: usize = 1;
+    let mut reports = [E; REPORTS];
+    let wrapped = words::wrap(own);
+    reports[0] = wrapped;
+    let mut count = words::weight(wrapped);
     for q in 0..Settings::MAX_CARDS {
         if members[q] {
-            reports[count] = words::read_at(d, votes[10 * k + 1 + q]);
-            count += 1;
+            let vote = words::read_at(d, votes[10 * k + 1 + q]);
+            reports[count] = vote;
+            count += words::weight(vote);
         }
     }
-    count
+    words::decide(&reports[..count])
 }
 
 // The vote at slot k of level d, made again from its own word and the other held votes; `members` are the cards that may lengthen its path, and with no rounds left it is the reading.
@@ -59,10 +62,7 @@ fn remake(
     if left == 0 {
         return own;
     }
-    let mut reports = [E; REPORTS];
-    reports[0] = words::wrap(own);
-    let count = gather(votes, members, &mut reports, d + 1, k);
-    words::unwrap(words::majority(&reports[..count]))
+    over_held(votes, members, own, d + 1, k)
 }
 
 // A copy of the words at a slot and at the three above it, above slot 0 its own again: all words that the votes on the way up are made from.
@@ -76,7 +76,7 @@ fn way_words(words: &[i32], slot: usize) -> [i32; LEVELS]
     [words[slot], words[second], words[third], words[fourth]]
 }
 
-// Re-makes the votes at a live slot and at each slot above it, slot 0 last, from the words there; `members` are the cards that may lengthen its path. On each step up the last relay may relay again.
+// Re-makes the votes at a live slot and at each slot above it, slot 0 last, from the words there; `members` are the cards that may lengthen its path. On each step up the last relay may relay again, and a round is left.
 fn walk_up(
     s: Settings,
     words: &[i32; LEVELS],
@@ -88,20 +88,20 @@ fn walk_up(
     ensures { λ r. ⌜ RemadeUp s slot (now (words .entry)) (now (votes .entry)) (now (votes .exit)) ⌝ }
 {
     let mut d = paths::level_of(slot);
-    let mut left = paths::rounds_left(s, d);
+    let left = paths::rounds_left(s, d);
+    let first = remake(words[0], votes, members, left, d, slot);
+    votes[slot] = first;
     let mut k = slot;
     let mut i: usize = 0;
     while 0 < k {
-        let vote = remake(words[i], votes, members, left, d, k);
-        votes[k] = vote;
         members[paths::last_relay(k)] = true;
-        left += 1;
+        k = paths::above(k);
         d -= 1;
         i += 1;
-        k = paths::above(k);
+        let own = words::read_at(d, words[i]);
+        let vote = over_held(votes, members, own, d + 1, k);
+        votes[k] = vote;
     }
-    let vote = remake(words[i], votes, members, left, 0, 0);
-    votes[0] = vote;
 }
 
 // What a slot holds after a word.

@@ -1,9 +1,12 @@
 -- Laws of the dealt words: what a card of each status sends, a slot from the one above, and what a card's vote goes by.
 use Prim.Native.Nat.{ℕ, zero, suc, _+_, _*_, _<_}
 use mathlib.Core.Path.{_≡_, refl, sym, ap, _∙_}
+use mathlib.Core.Bool.{true, cond, _&&_}
 use mathlib.Core.List.{List}
 use native.Mathlib.Omega.{arith}
-use lib.Dec.{T}
+use native.Mathlib.Decide.{ℕ-discrete}
+use borrow.Author.Tests.{eq-eqb, ne-eqb}
+use lib.Dec.{T, eqb}
 use lib.IntN.{ℤ, pos}
 use Rattle.ground.specs.Lists.{at}
 use Rattle.ground.proofs.Lists.{at-table}
@@ -15,7 +18,8 @@ use Rattle.paths.proofs.Levels.{level-pos, level-above, above-below, lastRelay-
 use Rattle.paths.proofs.Live.{live-slot, live-zero}
 use Rattle.vote.specs.Vote.{vote}
 use Rattle.vote.proofs.Votes.{vote-live}
-use Rattle.exchange.specs.Exchange.{Exchange, statusOf, settingsFor, sent, dealtAt, dealt, received, answerOf}
+use Rattle.exchange.specs.Exchange.{Exchange, Status, statusOf, settingsFor, sent, dealtAt, dealt, received, answerOf}
+use Rattle.exchange.specs.Sending.{Sends}
 
 -- ---- by the status byte
 
@@ -67,6 +71,40 @@ module _ (R : Rule) (X : Exchange) (k p : ℕ) {word r : ℤ} where
 -- one relay longer, by the relay q
 pub dealt-below : (R : Rule) (X : Exchange) (k q : ℕ) → k < 111 → q < 10 → (p : ℕ) → dealt R X (below k q) p ≡ sent (X .status q) (R .wrap (R .read (level k) (dealt R X k q))) (X .tabled (below k q) p) (X .tabled (below k q) 0)
 dealt-below R X k q h g p = sym (dealt-next R X (below k q) p (omega arith) (omega arith) refl (rw (above-below k q g, lastRelay-below k q g)))
+
+module _ (R : Rule) (X : Exchange) where
+  -- on the path at slot 0 the sender sends,
+  pub sends-first : Sends R X 0 (X .status (X .sender)) (X .value)
+  unfolding dealtAt level
+  sends-first q = refl
+
+  -- and on a longer one its last relay
+  pub sends-below : (d k q : ℕ) (status : Status) (word : ℤ) {relayed : ℤ} → k < 111 → level k ≡ d → q < 10 → relayed ≡ R .wrap (R .read d (sent status word (X .tabled k q) (X .tabled k 0))) → Sends R X k status word → Sends R X (below k q) (X .status q) relayed
+  sends-below d k q status word h l g e s p = rw (e, ← l, s q) (sym (dealt-below R X k q h g p))
+
+-- all but an arbitrary card send one word to all
+pub sent-all : (status : ℕ) (word own other first : ℤ) → (status ≡ 1 → ⊥) → sent (statusOf status) word own first ≡ sent (statusOf status) word other first
+unfolding statusOf sent
+sent-all zero word own other first n = refl
+sent-all (suc zero) word own other first n = absurd (n refl)
+sent-all (suc (suc zero)) word own other first n = refl
+sent-all (suc (suc (suc k))) word own other first n = refl
+
+-- only a good card's word is looked at
+pub only-good : (status : ℕ) (word other own first : ℤ) → (status ≡ 0 → word ≡ other) → sent (statusOf status) word own first ≡ sent (statusOf status) other own first
+unfolding statusOf sent
+only-good zero word other own first e = e refl
+only-good (suc zero) word other own first e = refl
+only-good (suc (suc zero)) word other own first e = refl
+only-good (suc (suc (suc k))) word other own first e = refl
+
+-- what a good relay sends on of what it received, told what it would be of another card's word
+pub on-good : (R : Rule) (d status by : ℕ) (word own other first told : ℤ) → told ≡ R .wrap (R .read d (sent (statusOf status) word other first)) → by ≡ 0 → cond (eqb status 1 && eqb by 0) (R .wrap (R .read d (sent (statusOf status) word own first))) told ≡ R .wrap (R .read d (sent (statusOf status) word own first))
+on-good R d status by word own other first told e z = rw z (go (ℕ-discrete status 1))
+  where
+    go : Dec (status ≡ 1) → cond (eqb status 1 && true) (R .wrap (R .read d (sent (statusOf status) word own first))) told ≡ R .wrap (R .read d (sent (statusOf status) word own first))
+    go (yes s) = rw (eq-eqb status 1 s)
+    go (no n) = rw (ne-eqb status 1 n) (e ∙ ap (λ (w : ℤ). R .wrap (R .read d w)) (sent-all status word other own first n))
 
 -- ---- what a card received
 

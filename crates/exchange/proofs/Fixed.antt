@@ -18,6 +18,8 @@ use Rattle.exchange.proofs.sent_by.Kinds as sent-by
 use Rattle.exchange.proofs.sent_by.Reads as sent-by-says
 use Rattle.exchange.proofs.relayed.Kinds as relayed
 use Rattle.exchange.proofs.relayed.Reads as relayed-says
+use Rattle.exchange.proofs.sent_on.Kinds as sent-on
+use Rattle.exchange.proofs.sent_on.Reads as sent-on-says
 
 pub statuses-bad-fixed : Fixes 1 statuses-bad.ps statuses-bad.r statuses-bad-says.Post Bool (λ κs x s. x)
 statuses-bad-fixed κs a x y s t p q = p ∙ sym q
@@ -39,3 +41,6 @@ sent-by-fixed κs a x y s t p q = p ∙ sym q
 
 pub relayed-fixed : Fixes 0 relayed.ps relayed.r relayed-says.Post ℤ (λ κs x s. x)
 relayed-fixed κs a x y s t p q = p ∙ sym q
+
+pub sent-on-fixed : Fixes 0 sent-on.ps sent-on.r sent-on-says.Post ℤ (λ κs x s. x)
+sent-on-fixed κs a x y s t p q = p ∙ sym q

@@ -6,6 +6,8 @@ use settings::Settings;
 use words::E;
 use words::Kind;
 ghost use mathlib.Core.Path.{_≡_};
+ghost use mathlib.Core.Bool.{cond, _&&_};
+ghost use lib.Dec.{eqb};
 ghost use Rattle.ground.specs.Checks.{verdict};
 ghost use Rattle.words.specs.Word.{kindOf, readAt, wrapped};
 ghost use Rattle.exchange.specs.Exchange.{statusOf, sent};
@@ -101,4 +103,15 @@ pub fn relayed(level: usize, word: i32) -> i32
     ensures { λ r. ⌜ r ≡ wrapped (readAt level word) ⌝ }
 {
     words::wrap(words::read_at(level, word))
+}
+
+// What a relay of status `by` sends on, if it is good, of what it received at this level from a card of this status. All but an arbitrary card send one word to all: of that one `told` is sent on.
+pub fn sent_on(status: u8, by: u8, level: usize, received: i32, told: i32) -> i32
+    ensures { λ r. ⌜ r ≡ cond (eqb status 1 && eqb by 0) (wrapped (readAt level received)) told ⌝ }
+{
+    if (status == 1) & (by == 0) {
+        relayed(level, received)
+    } else {
+        told
+    }
 }

@@ -1,2 +1,3 @@
+pub mod RefillOrder
 pub mod Refilled
 pub mod Fixed

@@ -22,7 +22,7 @@ use Rattle.paths.proofs.Walk.{put-is}
 use Rattle.vote.specs.Vote.{vote}
 use Rattle.vote.specs.Members.{memberVote}
 use Rattle.vote.proofs.Handed.{handed-vote, own-vote}
-use Rattle.book.specs.Book.{bookOf, Sized}
+use Rattle.book.specs.Book.{Book, bookOf, Sized}
 use Rattle.book.specs.Asked.{bookChecks}
 use Rattle.book.proofs.Asking.{book-asked}
 use Rattle.refilling.specs.Refilled.{refilledVotes, refilled}
@@ -61,7 +61,5 @@ module _ (R : Rule) (s : Settings) (ws vs : List ℤ) where
       put-is s (memberVote R ws) (vote R s ws) vs few long (λ o. handed-vote R s ws o few) (λ e. sym (own-vote R s ws 0 (membersOf s 0) e))
 
 -- what no verdict on a call tells
-pub refill-asked : (s : Settings) (ws vs : List ℤ) → verdict (bookChecks s (bookOf ws vs)) ≡ 0 → Refills s ws vs
-refill-asked s ws vs e =
-    let given = book-asked s (bookOf ws vs) e in
-    record { few = given .0 .turn .rack .deep; words-whole = given .1 .words-long; votes-whole = given .1 .votes-long }
+pub refill-asked : (s : Settings) (b : Book) → verdict (bookChecks s b) ≡ 0 → Refills s b
+refill-asked s b e = let given = book-asked s b e in record { few = given .0 .turn .rack .deep; whole = given .1 }

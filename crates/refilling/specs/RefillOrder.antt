@@ -1,40 +1,39 @@
 -- Refilling as the code does it: each vote is worked out from the words as `Rattle.vote.specs.Members` has it, and put in its place after those of the longer paths.
 use Prim.Native.Nat.{ℕ, _≤_}
 use mathlib.Core.Path.{_≡_}
-use mathlib.Core.Bool.{Bool}
-use mathlib.Core.List.{List, _∷_}
+use mathlib.Core.Bool.{Bool, cond}
+use mathlib.Core.List.{List}
+use lib.Dec.{eqb}
 use lib.IntN.{ℤ}
-use lib.ListN.{length}
+use lib.ListN.{length, take, drop}
 use Rattle.words.specs.Rule.{Rule}
 use Rattle.settings.specs.Settings.{slots}
 use Rattle.settings.specs.declared.Settings.{Settings}
 use Rattle.paths.specs.Walk.{putIn, putBelow}
-use Rattle.vote.specs.Members.{memberVote, membersVotes, Asked, Reports}
+use Rattle.vote.specs.Vote.{decided}
+use Rattle.vote.specs.Members.{memberVote, membersVotes, Asked}
+use Rattle.book.specs.Book.{Book, bookOf, Sized}
+
+-- the book whose votes stand in `list` from place `first` on: its words are a list of their own where that is 0, else they stand before the votes
+abbrev pub bookIn : List ℤ → List ℤ → ℕ → Book
+bookIn words list first = bookOf (cond (eqb first 0) words (take first list)) (drop first list)
 
 -- what putting in is asked: what the vote's instance is, and whole votes
-pub record Fills (words votes : List ℤ) (members : List Bool) (r d k : ℕ) : Type 0 where
-  pub asked : Asked words members r d k
-  pub votes-whole : length votes ≡ slots
+pub record Fills (b : Book) (members : List Bool) (r d k : ℕ) : Type 0 where
+  pub asked : Asked (b .words) members r d k
+  pub votes-whole : length (b .votes) ≡ slots
 
 -- what a refilling is asked: at most three rounds, and both lists whole
-pub record Refills (s : Settings) (words votes : List ℤ) : Type 0 where
+pub record Refills (s : Settings) (b : Book) : Type 0 where
   pub few : s .rack .m ≤ 3
-  pub words-whole : length words ≡ slots
-  pub votes-whole : length votes ≡ slots
+  pub whole : Sized b
 
 -- the vote at slot k, and it and those of the longer paths in their places
-pub record Refilling (R : Rule) (words : List ℤ) (cards : List Bool) (r d k : ℕ) (before : List ℤ) (told : ℤ) (after : List ℤ) (cards-after : List Bool) : Type 0 where
-  pub vote : told ≡ memberVote R words cards r d k
-  pub votes : after ≡ putIn (memberVote R words) cards r d k before
-  pub members : cards-after ≡ cards
+pub record Refilling (R : Rule) (b : Book) (cards : List Bool) (r d k : ℕ) (told : ℤ) (after : Book) : Type 0 where
+  pub vote : told ≡ memberVote R (b .words) cards r d k
+  pub book : after ≡ bookOf (b .words) (putIn (memberVote R (b .words)) cards r d k (b .votes))
 
--- no round left for the longer paths: their votes after the own report, and in their places
-pub record RefillingLast (R : Rule) (words : List ℤ) (cards : List Bool) (d k : ℕ) (before : List ℤ) (own : ℤ) (told : ℕ) (gathered after : List ℤ) : Type 0 where
-  pub reports : Reports gathered told (own ∷ membersVotes R words cards 0 d k 10)
-  pub votes : after ≡ putBelow (memberVote R words) cards 0 d k 10 before
-
--- r rounds left for each of them
-pub record RefillingMembers (R : Rule) (words : List ℤ) (cards : List Bool) (r d k : ℕ) (before : List ℤ) (own : ℤ) (told : ℕ) (gathered after : List ℤ) (cards-after : List Bool) : Type 0 where
-  pub reports : Reports gathered told (own ∷ membersVotes R words cards r d k 10)
-  pub votes : after ≡ putBelow (memberVote R words) cards r d k 10 before
-  pub members : cards-after ≡ cards
+-- what the own reading and the votes of the longer paths decide, with r rounds left for each of them, and those in their places
+pub record RefillingBelow (R : Rule) (b : Book) (cards : List Bool) (r d k : ℕ) (own told : ℤ) (after : Book) : Type 0 where
+  pub vote : told ≡ decided R own (membersVotes R (b .words) cards r d k 10)
+  pub book : after ≡ bookOf (b .words) (putBelow (memberVote R (b .words)) cards r d k 10 (b .votes))

@@ -5,7 +5,7 @@ use mathlib.Core.Bool.{Bool, false}
 use mathlib.Core.List.{List}
 use lib.Dec.{T}
 use lib.IntN.{ℤ}
-use lib.ListN.{length, set, take}
+use lib.ListN.{length, set}
 use Rattle.words.specs.Rule.{Rule}
 use Rattle.ground.specs.Lists.{at, over}
 use Rattle.settings.specs.Settings.{slots}
@@ -30,11 +30,6 @@ pub record Asked (words : List ℤ) (members : List Bool) (r d k : ℕ) : Type 0
   pub cards : length members ≡ 10
   pub deep : r + d ≤ 3
   pub slot : k < room r
-
--- the first `count` of the reports are l
-pub record Reports (reports : List ℤ) (count : ℕ) (l : List ℤ) : Type 0 where
-  pub counted : count ≡ length l
-  pub first : take count reports ≡ l
 
 -- what the vote at a slot is asked: at most three rounds, a live path with its members, and the words of a whole book
 pub record Whole (s : Settings) (words : List ℤ) (members : List Bool) (k : ℕ) : Type 0 where

@@ -4,15 +4,12 @@ use ground::refusal;
 use settings::Settings;
 use words::E;
 ghost use mathlib.Core.Path.{_≡_};
-ghost use mathlib.Core.List.{_∷_};
 ghost use Prim.Native.Nat.{_+_};
-ghost use lib.ListN.{length};
 ghost use Rattle.ground.specs.Checks.{verdict};
 ghost use Rattle.ground.specs.Answer.{ofTold};
-ghost use Rattle.ground.specs.Lists.{at};
 ghost use Rattle.words.specs.Rule.{omh};
-ghost use Rattle.vote.specs.Vote.{ruleOf, vote};
-ghost use Rattle.vote.specs.Members.{memberVote, membersVotes, Asked, Whole, Reports};
+ghost use Rattle.vote.specs.Vote.{ruleOf, decided, vote};
+ghost use Rattle.vote.specs.Members.{memberVote, membersVotes, Asked, Whole};
 ghost use Rattle.vote.specs.Asked.{wordsChecks, voteAsked, answerAsked};
 
 // An own report, and one from each of the ten cards.
@@ -33,36 +30,35 @@ fn instance(
     if left == 0 {
         return own;
     }
-    let mut reports = [E; REPORTS];
-    reports[0] = words::wrap(own);
-    let count = over_members(words, members, &mut reports, left - 1, d, k);
-    words::unwrap(words::majority(&reports[..count]))
+    over_members(words, members, own, left - 1, d, k)
 }
 
-// Puts the votes of the longer paths, by each member in turn, after the own report, and answers how many reports there are.
+// Decides the vote from the own reading and the votes of the longer paths, by each member in turn. A struck report is left out: the next takes its place.
 fn over_members(
     words: &[i32],
     members: &mut [bool; Settings::MAX_CARDS],
-    reports: &mut [i32; REPORTS],
+    own: i32,
     left: usize,
     d: usize,
     k: usize,
-) -> usize
+) -> i32
     requires { ⌜ Asked (now words) (now members) (left + 1) d k ⌝ }
-    requires { ⌜ length (now reports) ≡ 11 ⌝ }
-    ensures { λ r. ⌜ Reports (now (reports .exit)) r (at (now (reports .entry)) 0 ∷ membersVotes omh (now (words .entry)) (now (members .entry)) left d k 10) × (now (members .exit) ≡ now (members .entry)) ⌝ }
+    ensures { λ r. ⌜ (r ≡ decided omh own (membersVotes omh (now (words .entry)) (now (members .entry)) left d k 10)) × (now (members .exit) ≡ now (members .entry)) ⌝ }
 {
-    let mut count: usize = 1;
+    let mut reports = [E; REPORTS];
+    let wrapped = words::wrap(own);
+    reports[0] = wrapped;
+    let mut count = words::weight(wrapped);
     for q in 0..Settings::MAX_CARDS {
         if members[q] {
             members[q] = false;
             let vote = instance(words, members, left, d + 1, 10 * k + 1 + q);
             members[q] = true;
             reports[count] = vote;
-            count += 1;
+            count += words::weight(vote);
         }
     }
-    count
+    words::decide(&reports[..count])
 }
 
 // The vote at a live slot, of settings that are not refused; `members` are the cards that may lengthen its path.
@@ -77,7 +73,11 @@ fn vote_of(
 {
     let d = paths::level_of(slot);
     let left = paths::rounds_left(s, d);
-    instance(words, members, left, d, slot)
+    let own = words::read_at(d, words[slot]);
+    if left == 0 {
+        return own;
+    }
+    over_members(words, members, own, left - 1, d, slot)
 }
 
 // The refusal number of a call over words; 0 for none.

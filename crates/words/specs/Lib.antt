@@ -1,3 +1,4 @@
 pub mod Word
 pub mod Majority
 pub mod Rule
+pub mod Counted

@@ -1,9 +1,11 @@
 // Document 01, 'Words': the kinds of a word, reading, wrapping, unwrapping, and the hybrid majority.
 ghost use mathlib.Core.Path.{_≡_};
+ghost use mathlib.Core.Bool.{cond};
 ghost use lib.ListN.{length};
 ghost use Rattle.words.specs.Word.{kindOf, readAt, wrapped, unwrapped};
 ghost use Rattle.words.specs.Majority.{kept};
 ghost use Rattle.words.specs.Rule.{omh, majorityBy};
+ghost use Rattle.words.specs.Counted.{majorityOf};
 
 // Missing, unwrapped.
 pub const E: i32 = 1_000_000_000;
@@ -76,6 +78,13 @@ fn is_struck(word: i32) -> bool
     word == E
 }
 
+// How many a word adds to those that are not struck.
+pub fn weight(word: i32) -> usize
+    ensures { λ r. ⌜ r ≡ cond (omh .struck word) 0 1 ⌝ }
+{
+    if is_struck(word) { 0 } else { 1 }
+}
+
 // How many words of the list are not struck.
 fn kept_len(list: &[i32]) -> usize
     ensures { λ r. ⌜ r ≡ length (kept (omh .struck) (now (list .entry))) ⌝ }
@@ -93,24 +102,43 @@ fn kept_len(list: &[i32]) -> usize
 pub fn majority(list: &[i32]) -> i32
     ensures { λ r. ⌜ r ≡ majorityBy omh (now (list .entry)) ⌝ }
 {
-    let half = kept_len(list) / 2;
+    majority_of(list, kept_len(list))
+}
+
+// The same, told how many words are not struck. A word is counted from its place on; where no more than half of that number are left to search, none of them is found.
+fn majority_of(list: &[i32], n: usize) -> i32
+    ensures { λ r. ⌜ r ≡ majorityOf (omh .struck) (omh .none) n (now (list .entry)) ⌝ }
+{
+    let half = n / 2;
     let mut i = 0;
     'outer: loop {
-        if i == list.len() {
+        if list.len() - i <= half {
             break 'outer E;
         }
         let w = list[i];
         if !is_struck(w) {
-            let mut seen: usize = 0;
-            for j in 0..list.len() {
+            let mut seen: usize = 1;
+            let mut j = i + 1;
+            loop {
+                if half < seen {
+                    break 'outer w;
+                }
+                if j == list.len() {
+                    break;
+                }
                 if list[j] == w {
                     seen += 1;
-                    if half < seen {
-                        break 'outer w;
-                    }
                 }
+                j += 1;
             }
         }
         i += 1;
     }
+}
+
+// The vote that reports decide, from which those that are struck are left out: their majority, unwrapped.
+pub fn decide(reports: &[i32]) -> i32
+    ensures { λ r. ⌜ r ≡ omh .unwrap (majorityOf (omh .struck) (omh .none) (length (now (reports .entry))) (now (reports .entry))) ⌝ }
+{
+    unwrap(majority_of(reports, reports.len()))
 }

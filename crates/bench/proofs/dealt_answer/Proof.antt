@@ -68,15 +68,17 @@ over-dealt-requires c κs =
     let members = rounds .before in
     let start = members .before .before in
     let s = start .args .s in
-    let given = start .pre .0 in
-    record {
-      statuses-long = given .statuses-long;
-      table-long = given .table-long;
-      card = start .pre .2;
-      cards = ap length (members .may-relay .ensures) ∙ length-table 10 0 _;
-      deep = omega (arith, rounds .rounds-left .ensures, left-few s 0, start .pre .1);
-      slot = room-zero (rounds .rounds-left .result - 1 + 1);
-    }
+    let given = start .pre .0 in (
+      record {
+        statuses-long = given .statuses-long;
+        table-long = given .table-long;
+        card = start .pre .2;
+        cards = ap length (members .may-relay .ensures) ∙ length-table 10 0 _;
+        deep = omega (arith, rounds .rounds-left .ensures, left-few s 0, start .pre .1);
+        slot = room-zero (rounds .rounds-left .result - 1 + 1);
+      },
+      own (some .before),
+    )
 
 returns-2 : tie.Need-returns-2
 returns-2 c =

@@ -1,105 +1,98 @@
--- `dealing::deal` meets its contract: the live places before `k` are dealt.
-use Prim.Native.Nat.{ℕ, _-_}
-use mathlib.Core.Path.{sym, ap, _∙_}
-use mathlib.Core.Bool.{cond}
-use mathlib.Core.List.{List}
+-- `dealing::deal` meets its contract: from slot 0, with all cards that may relay and all rounds, every live word is dealt.
+use Prim.Native.Nat.{_+_, _*_}
+use mathlib.Core.Path.{_≡_, refl, sym, ap, _∙_}
 use mathlib.Core.Logic.{⊎-elim}
 use native.Mathlib.Omega.{arith}
 use borrow.Author.Needs.{needs, sfits-of}
 use denote.Ref.{now}
-use mir.Syntax.{w32}
-use mir.Val.{toZ}
-use lib.IntN.{ℤ}
+use lib.ListN.{length, length-set}
 use Rattle.ground.specs.Lists.{at}
 use Rattle.ground.proofs.Bits.{back-is}
-use Rattle.ground.proofs.Bools.{chosen-yes, chosen-no}
-use Rattle.ground.proofs.Lists.{Passed, passed-none, passed-set, passed-same, passed-all}
-use Rattle.settings.specs.Settings.{turnOf}
-use Rattle.settings.specs.declared.Settings.{Settings}
-use Rattle.paths.specs.Slots.{live}
-use Rattle.paths.proofs.Members.{in-tells}
+use Rattle.ground.proofs.Lists.{length-table}
+use Rattle.paths.specs.Slots.{level}
+use Rattle.paths.proofs.Handed.{left-few}
 use Rattle.vote.specs.Vote.{ruleOf}
-use Rattle.exchange.specs.Exchange.{exchange, dealt}
-use Rattle.dealing.specs.Dealt.{dealtOver}
+use Rattle.exchange.proofs.Dealing.{sent-as}
+use Rattle.dealing.proofs.DealOrder.{deal-last, deal-more}
+use Rattle.dealing.proofs.Filling.{dealt-all}
 use Rattle.dealing.proofs.deal.Statement.{statement}
 use Rattle.dealing.proofs.deal.Tie as tie
 
--- what place k holds after the dealing
-abbrev goal : Settings → ℤ → List ℕ → List ℤ → List ℤ → ℕ → ℤ
-goal s x statuses words before k = cond (live s k) (dealt (ruleOf (s .rack)) (exchange (turnOf s) x statuses words) k (s .p)) (at before k)
-
-abbrev Inv-loop : tie.InvT-loop
-Inv-loop s x statuses table words₀ relays k₀ words k = Passed 1111 (goal s (toZ w32 x) statuses table words₀) words₀ k words
-
-abbrev μ-loop : tie.MeasureT-loop
-μ-loop s x statuses table words₀ relays k₀ words k = 1111 - k
-
-may-relay-requires : tie.Need-may-relay-requires Inv-loop μ-loop
+may-relay-requires : tie.Need-may-relay-requires
 may-relay-requires c κs = search needs
 
-loop-holds : tie.Need-loop-holds Inv-loop μ-loop
-loop-holds c = passed-none _ _ (c .before .before .pre .3)
+rounds-left-requires : tie.Need-rounds-left-requires
+rounds-left-requires c κs = search needs
 
-live-in-requires : tie.Need-live-in-requires Inv-loop μ-loop
-live-in-requires c κs = search needs
+read-status : tie.Need-shared-slice-read-status
+read-status c = search needs
 
-dealt-at-requires : tie.Need-dealt-at-requires Inv-loop μ-loop
-dealt-at-requires c κs =
-    let turn = c .before .before .before in
-    let start = turn .before .before .before .before in
-    (start .pre .0, turn .loop-test .taken, start .pre .2)
+sub-members : tie.Need-sub-deal-members
+sub-members c = search needs
 
-mul-t13 : tie.Need-mul-t13 Inv-loop μ-loop
-mul-t13 c = omega arith
+members-requires : tie.Need-deal-members-requires
+unfolding level
+members-requires c κs =
+    let some = c .before .before in
+    let rounds = some .before .before in
+    let members = rounds .before in
+    let start = members .before .before in
+    let pre = start .pre in
+    record {
+      statuses-long = pre .0 .statuses-long;
+      table-long = pre .0 .table-long;
+      words-long = pre .3;
+      cards = ap length (members .may-relay .ensures) ∙ length-table 10 0 _;
+      card = pre .2;
+      slot = omega arith;
+      here = refl;
+      deep = omega (arith, rounds .rounds-left .ensures, left-few (start .args .s) 0, pre .1, some .if1 .taken);
+    }
 
-slice-set-from-words : tie.Need-slice-set-from-words Inv-loop μ-loop
-slice-set-from-words c = let turn = c .before .before .before .before in omega (arith, turn .loop-test .taken, turn .before .loop .inv .long)
+mul-own : tie.Need-mul-sent-by
+mul-own c = search needs
 
-add-k : tie.Need-add-k Inv-loop μ-loop
-add-k c = omega arith
+copy-out-own : tie.Need-shared-slice-copy-out-sent-by
+copy-out-own c = search needs
 
-loop-less : tie.Need-loop-less Inv-loop μ-loop
-loop-less c = omega arith
+copy-out-first : tie.Need-shared-slice-copy-out-sent-by-2
+copy-out-first c = search needs
 
-loop-again : tie.Need-loop-again Inv-loop μ-loop
-loop-again c =
-    let path = c .before in
-    let turn = path .before .before in
-    let loop = turn .before in
-    let relays = loop .before in
-    let s = relays .before .before .args .s in
-    let alive = in-tells s (loop .loop .k) (relays .may-relay .ensures) (path .live-in .ensures) in
-    ⊎-elim
-    (λ w. passed-set (loop .loop .inv) (turn .loop-test .taken) (back-is (sfits-of (w .1 .ok)) ∙ w .1 .ensures (s .rack) ∙ chosen-yes _ _ (sym alive ∙ w .0 .taken)) (w .2))
-    (λ w. passed-same (loop .loop .inv) (turn .loop-test .taken) (chosen-no _ _ (sym alive ∙ w .0 .left)) (w .1))
-    (c .if1 .came)
+own-requires : tie.Need-sent-by-requires
+own-requires c κs = search needs
 
-same-length : tie.Need-same-length Inv-loop μ-loop
-same-length c = let loop = c .before in loop .loop .inv .long ∙ sym (loop .before .before .before .pre .3)
+-- no word is lost
+long : (c : tie.Joined1) → length (c .if1 .words) ≡ length (now (c .before .before .before .before .before .args .words))
+long c = ⊎-elim (λ w. ap length (w .5) ∙ w .4 .given) (λ w. ap length (w .1)) (c .if1 .came)
 
-returns : tie.Need-returns Inv-loop μ-loop
-unfolding dealtOver
+set-words : tie.Need-slice-set-from-words
+set-words c =
+    let join = c .before .before .before in
+    omega (arith, long join, join .before .before .before .before .before .pre .3)
+
+same-length : tie.Need-same-length
+same-length c =
+    let join = c .before .before .before in
+    length-set (join .if1 .words) _ _ ∙ long join
+
+returns : tie.Need-returns
 returns c =
-    let loop = c .before in
-    let start = loop .before .before .before in
+    let first = c .before in
+    let own = first .before in
+    let join = own .before in
+    let rounds = join .before .before in
+    let start = rounds .before .before .before in
     let a = start .args in
-    passed-all (loop .loop .inv) (λ j h g. absurd (omega (arith, c .loop-test .left)))
-    ∙ ap (λ (x : ℤ). dealtOver (ruleOf (a .s .rack)) (exchange (turnOf (a .s)) x (now (a .statuses)) (now (a .table))) (a .s .p) (now (a .words))) (back-is (start .fits .x))
+    let e = back-is (start .fits .x) in
+    let place : a .s .p ≡ 10 * 0 + a .s .p = omega arith in
+    let v = back-is (sfits-of (c .sent-by .ok)) ∙ c .sent-by .ensures ∙ sent-as _ e (back-is (sfits-of (own .sent-by-arg .given)) ∙ ap (at (now (a .table))) place) (back-is (sfits-of (first .sent-by-arg2 .given))) in
+    dealt-all (ruleOf (a .s .rack)) (a .s) (a .x) (now (a .statuses)) (now (a .table)) (now (a .words)) (start .pre .1) (start .pre .3) (rounds .before .may-relay .ensures) (rounds .rounds-left .ensures)
+    (⊎-elim
+    (λ w. deal-more v (w .0 .taken) e (w .3 .ensures) (w .5) (sym (w .3 .ensures .members)))
+    (λ w. deal-last v (w .0 .left) (w .1) refl)
+    (join .if1 .came))
 
 pub deal-spec : {M : Type 1} → statement M
 deal-spec =
     tie.close
-    (tie.spec
-    Inv-loop
-    μ-loop
-    may-relay-requires
-    loop-holds
-    live-in-requires
-    dealt-at-requires
-    mul-t13
-    slice-set-from-words
-    add-k
-    loop-less
-    loop-again
-    same-length
-    returns)
+    (tie.spec may-relay-requires rounds-left-requires read-status sub-members members-requires mul-own copy-out-own copy-out-first own-requires set-words same-length returns)

@@ -1,10 +1,13 @@
 -- `entering::remake` meets its contract: the reading where no rounds are left, else decided over the members' held votes.
-use mathlib.Core.Path.{_≡_, refl, sym, ap, _∙_}
+use Prim.Native.Nat.{_+_}
+use mathlib.Core.Path.{_≡_, sym, ap, _∙_}
 use borrow.Author.Needs.{needs, sfits-of}
-use lib.Seq.{length-take-le}
+use denote.Ref.{now}
+use lib.IntN.{ℤ}
 use Rattle.words.specs.Rule.{omh}
 use Rattle.ground.proofs.Bits.{back, back-is}
-use Rattle.vote.proofs.Gather.{inside, decides}
+use Rattle.vote.specs.Vote.{decided}
+use Rattle.entering.specs.Remaking.{heldVotes}
 use Rattle.entering.proofs.Leaf.{made-last, made-more}
 use Rattle.entering.proofs.remake.Statement.{statement}
 use Rattle.entering.proofs.remake.Tie as tie
@@ -22,47 +25,21 @@ returns c =
     let a = read .before .args in
     own read ∙ sym (made-last omh _ _ _ (a .left) (a .d) (a .k) (c .if1 .taken))
 
-wrap-requires : tie.Need-wrap-requires
-wrap-requires c κs = search needs
+add-over-held : tie.Need-add-over-held
+add-over-held c = search needs
 
-set-from-reports : tie.Need-array-set-from-reports
-set-from-reports c = search needs
-
-add-gather : tie.Need-add-gather
-add-gather c = search needs
-
-gather-requires : tie.Need-gather-requires
-gather-requires c κs =
-    let other = c .before .before in
-    let pre = other .before .before .pre in
-    (pre .votes-whole, pre .cards, refl, pre .inner (other .if1 .left))
-
-share-prefix : tie.Need-array-share-prefix-reports
-share-prefix c = inside (c .gather .ensures)
-
-slice-aggregate : tie.Need-slice-aggregate-majority
-slice-aggregate c = sym (length-take-le _ _ (inside (c .before .gather .ensures)))
-
-majority-requires : tie.Need-majority-requires
-majority-requires c κs = search needs
-
-unwrap-requires : tie.Need-unwrap-requires
-unwrap-requires c κs = search needs
+over-held-requires : tie.Need-over-held-requires
+over-held-requires c κs = let pre = c .before .before .pre in (pre .votes-whole, pre .cards, pre .inner (c .if1 .left))
 
 returns-2 : tie.Need-returns-2
 returns-2 c =
-    let gather = c .before .before .before in
-    let wrap = gather .before .before in
-    let other = wrap .before in
+    let other = c .before in
     let read = other .before in
     let a = read .before .args in
-    decides omh (gather .gather .ensures)
-    (back-is (sfits-of (wrap .wrap .ok)) ∙ wrap .wrap .ensures ∙ ap (omh .wrap) (own read))
-    (c .before .majority .ensures)
-    (back-is (sfits-of (c .unwrap .ok)) ∙ c .unwrap .ensures ∙ ap (omh .unwrap) (back-is (sfits-of (c .before .majority .ok))))
+    back-is (sfits-of (c .over-held .ok))
+    ∙ c .over-held .ensures
+    ∙ ap (λ (own : ℤ). decided omh own (heldVotes omh (now (a .votes)) (now (a .members)) (a .d + 1) (a .k) 10)) (own read)
     ∙ sym (made-more omh _ _ _ (a .left) (a .d) (a .k) (other .if1 .left))
 
 pub remake-spec : {M : Type 1} → statement M
-remake-spec =
-    tie.close
-    (tie.spec read-at-requires returns wrap-requires set-from-reports add-gather gather-requires share-prefix slice-aggregate majority-requires unwrap-requires returns-2)
+remake-spec = tie.close (tie.spec read-at-requires returns add-over-held over-held-requires returns-2)

@@ -1,5 +1,5 @@
 -- `refilling::refill` meets its contract: the verdict decides.
-use mathlib.Core.Path.{sym, ap, _∙_}
+use mathlib.Core.Path.{sym, _∙_}
 use borrow.Author.Needs.{needs}
 use denote.Ref.{now}
 use Rattle.ground.proofs.Answers.{outcome-refused, outcome-done}
@@ -22,7 +22,7 @@ refill-all-requires c κs =
     let none = c .before in
     let v = none .before in
     let a = v .before .before .args in
-    refill-asked (a .s) (now (a .words)) (now (a .votes)) (sym (v .book-refused .ensures) ∙ none .if1 .left)
+    refill-asked (a .s) (bookOf (now (a .words)) (now (a .votes))) (sym (v .book-refused .ensures) ∙ none .if1 .left)
 
 same-length-2 : tie.Need-same-length-2
 same-length-2 c = search needs
@@ -32,7 +32,7 @@ returns-2 c =
     let call = c .before in
     let none = call .before .before in
     let v = none .before in
-    outcome-done (v .book-refused .ensures) (none .if1 .left) _ (ap (bookOf (now (v .before .before .args .words))) (call .refill-all .ensures))
+    outcome-done (v .book-refused .ensures) (none .if1 .left) _ (call .refill-all .ensures)
 
 pub refill-spec : {M : Type 1} → statement M
 refill-spec = tie.close (tie.spec book-refused-requires same-length returns refill-all-requires same-length-2 returns-2)

@@ -14,6 +14,8 @@ use Rattle.paths.proofs.Members.{first-members}
 use Rattle.paths.proofs.Handed.{left-few, room-zero}
 use Rattle.vote.specs.Members.{memberVote}
 use Rattle.vote.specs.Vote.{ruleOf}
+use Rattle.book.specs.Book.{bookOf}
+use Rattle.refilling.specs.RefillOrder.{bookIn}
 use Rattle.refilling.proofs.Refilled.{put-votes}
 use Rattle.refilling.proofs.refill_all.Statement.{statement}
 use Rattle.refilling.proofs.refill_all.Tie as tie
@@ -35,12 +37,12 @@ refill-from-requires c κs =
     let start = path .before in
     record {
       asked = record {
-        whole = start .pre .words-whole;
+        whole = start .pre .whole .words-long;
         cards = ap length (top path) ∙ length-table 10 0 _;
         deep = omega (arith, rounds .rounds-left .ensures, left-few (start .args .s) 0, start .pre .few);
         slot = room-zero (rounds .rounds-left .result);
       };
-      votes-whole = start .pre .votes-whole;
+      votes-whole = start .pre .whole .votes-long;
     }
 
 same-length : tie.Need-same-length
@@ -54,9 +56,11 @@ returns c =
     let start = path .before in
     let a = start .args in
     let R = ruleOf (a .s .rack) in
-    call .refill-from .ensures .votes
-    ∙ ap₂ (λ (l : List Bool) (r : ℕ). putIn (memberVote R (now (a .words))) l r 0 0 (now (a .votes))) (top path) (rounds .rounds-left .ensures)
-    ∙ put-votes R (a .s) (now (a .words)) (now (a .votes)) (start .pre .few) (start .pre .votes-whole)
+    let b = bookIn (now (a .words)) (now (a .list)) (a .first) in
+    call .refill-from .ensures .0 .book
+    ∙ ap (bookOf (b .words))
+    (ap₂ (λ (l : List Bool) (r : ℕ). putIn (memberVote R (b .words)) l r 0 0 (b .votes)) (top path) (rounds .rounds-left .ensures)
+    ∙ put-votes R (a .s) (b .words) (b .votes) (start .pre .few) (start .pre .whole .votes-long))
 
 pub refill-all-spec : {M : Type 1} → statement M
 refill-all-spec = tie.close (tie.spec may-relay-requires rounds-left-requires refill-from-requires same-length returns)
