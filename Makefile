@@ -24,7 +24,7 @@ host: ## builds the archive for C and Rust, and the bench host, host/build/bench
 	tools/archive
 	flock host $(MAKE) -C host
 
-bench: ## measures the library beside plain C
+bench: ## measures the library beside C in two forms
 	tools/archive
 	$(MAKE) -C host/speed
 

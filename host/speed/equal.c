@@ -1,6 +1,6 @@
 /*
- * equal COUNT: calls the library and plain C with the same random input, COUNT times for each function, and
- * compares answers, refusals and all lent memory. At a difference it prints the input and ends with 1.
+ * equal COUNT: calls the library and each form of C with the same random input, COUNT times for each function,
+ * and compares answers, refusals and all lent memory. At a difference it prints the input and ends with 1.
  */
 #include <stdio.h>
 #include <stdlib.h>
@@ -41,6 +41,11 @@ static void vote_at(const struct version *v, struct call *c)
     c->refusal = v->vote_at(SETTINGS, c->words, c->words_len, c->slot, &c->word);
 }
 
+static void open(const struct version *v, struct call *c)
+{
+    c->refusal = v->open(SETTINGS, BOOK);
+}
+
 static void enter(const struct version *v, struct call *c)
 {
     c->refusal = v->enter(SETTINGS, BOOK, c->slot, c->word);
@@ -76,6 +81,16 @@ static void books_enter_frame(const struct version *v, struct call *c)
     c->refusal = v->books_enter_frame(SETTINGS, BOOKS, c->current, c->frame, c->frame_len);
 }
 
+static void word_for(const struct version *v, struct call *c)
+{
+    c->refusal = v->word_for(EXCHANGE, c->p, c->slot, &c->word);
+}
+
+static void fill(const struct version *v, struct call *c)
+{
+    c->refusal = v->fill(EXCHANGE, c->p, BOOK);
+}
+
 static void answer_for(const struct version *v, struct call *c)
 {
     c->refusal = v->answer_for(EXCHANGE, c->p, &c->word);
@@ -102,9 +117,11 @@ static void list(const struct version *v, struct call *c)
 }
 
 #define NAMED(prefix, function) {#function, function},
-static const struct { const char *name; void (*make)(const struct version *, struct call *); } functions[] = {
-    COMPARED(NAMED, )
+static const struct function { const char *name; void (*make)(const struct version *, struct call *); } functions[] = {
+    PEER_CALLS(NAMED, )
 };
+
+static const struct version omh = VERSION(omh), forms[] = {VERSION(same), VERSION(bools), VERSION(any)};
 
 /* Whether to spoil one thing: seldom, so that most calls are not refused. */
 static bool seldom(void)
@@ -222,34 +239,39 @@ static void some_call(struct call *c)
     some_file(c);
 }
 
-static void print_difference(const char *name, const struct call *c)
+/* Calls the library and each form with what is given; false, and the input printed, where one differs. */
+static bool compare(const struct function *f, const struct call *given, struct call *left)
 {
-    printf("%s differs; struct call was ", name);
-    for (size_t i = 0; i < sizeof *c; i++)
-        printf("%02x", ((const uint8_t *)c)[i]);
-    putchar('\n');
+    static struct call right;
+    memcpy(left, given, sizeof *given);
+    f->make(&omh, left);
+    for (size_t i = 0; i < sizeof forms / sizeof *forms; i++) {
+        memcpy(&right, given, sizeof *given);
+        f->make(&forms[i], &right);
+        if (memcmp(left, &right, sizeof right) == 0)
+            continue;
+        printf("%s_%s differs; struct call was ", forms[i].prefix, f->name);
+        for (size_t j = 0; j < sizeof *given; j++)
+            printf("%02x", ((const uint8_t *)given)[j]);
+        putchar('\n');
+        return false;
+    }
+    return true;
 }
 
 int main(int argc, char **argv)
 {
-    static const struct version omh = VERSION(omh, COMPARED), peer = VERSION(peer, COMPARED);
-    static struct call given, left, right;
+    static struct call given, left;
     size_t count = argc == 2 ? strtoul(argv[1], NULL, 10) : 0, compared = 0, refused = 0;
     for (size_t i = 0; i < count; i++) {
         some_call(&given);
         for (size_t f = 0; f < sizeof functions / sizeof *functions; f++) {
-            memcpy(&left, &given, sizeof given);
-            memcpy(&right, &given, sizeof given);
-            functions[f].make(&omh, &left);
-            functions[f].make(&peer, &right);
-            if (memcmp(&left, &right, sizeof left) != 0) {
-                print_difference(functions[f].name, &given);
+            if (!compare(&functions[f], &given, &left))
                 return 1;
-            }
             compared++;
             refused += left.refusal != 0 || left.text[0] == 'r';
         }
     }
-    printf("%zu calls compared, no difference (%zu of them refused)\n", compared, refused);
+    printf("%zu calls compared in each form, no difference (%zu of them refused)\n", compared, refused);
     return compared == 0;
 }

@@ -14,22 +14,23 @@ static int32_t some_word(bool mixed)
     return mixed ? words[below(8)] : -120;
 }
 
-/* A frame at level m, with its slot and word: its relays are the first m cards after p, round, that are not t. */
+/* A frame at the deepest live level, with its slot and word: its relays are the first cards after p, round, that are not t. */
 static void make_frame(struct input *in, int32_t word)
 {
+    size_t level = in->m < in->n - 2 ? in->m : in->n - 2;
     uint8_t *at = put_bytes(in->frame, "OMH", 3);
     at = put(at, 1, 2);
     at = put(at, in->current, 2);
     at = put(at, in->t, 1);
-    at = put(at, in->m, 1);
+    at = put(at, level, 1);
     size_t q = in->p;
     in->slot = 0;
     for (size_t i = 0; i < OMH_ROUNDS; i++) {
         do
             q = (q + 1) % in->n;
         while (q == in->t);
-        at = put(at, i < in->m ? q : 255, 1);
-        if (i < in->m)
+        at = put(at, i < level ? q : 255, 1);
+        if (i < level)
             in->slot = longer(in->slot) + q;
     }
     at = put(at, in->p, 1);
@@ -71,7 +72,7 @@ static void make_input(struct input *in, size_t i, size_t n, size_t m, bool mixe
     for (size_t k = 0; k < OMH_TABLE; k++)
         in->table[k] = some_word(mixed);
     make_file(in);
-    peer_refill(n, m, in->t, in->p, in->words, OMH_SLOTS, in->votes, OMH_SLOTS);
+    same_refill(n, m, in->t, in->p, in->words, OMH_SLOTS, in->votes, OMH_SLOTS);
     for (int32_t *book = in->books; book < in->books + OMH_BOOKS; book += OMH_BOOK) {
         memcpy(book, in->words, sizeof in->words);
         memcpy(book + OMH_SLOTS, in->votes, sizeof in->votes);
@@ -81,8 +82,8 @@ static void make_input(struct input *in, size_t i, size_t n, size_t m, bool mixe
 bool make_inputs(const char *name, enum kind *kind, struct input inputs[INPUTS])
 {
     static const char *const kinds[KINDS] = {
-        "majority", "vote", "word", "enter", "refill", "longword", "longenter", "longrefill", "answer", "answers", "row",
-        "list",
+        "majority", "vote", "open", "word", "enter", "refill", "longword", "longenter", "longrefill",
+        "dealt", "fill", "answer", "answers", "row", "list",
     };
     char kind_name[12], words[10];
     size_t n, m;

@@ -10,7 +10,8 @@ enum { INPUTS = 16, EXCEPTIONS = 64 };
 
 /* What is called: entering is of a frame or of a word, in two lists or in the long list. */
 enum kind {
-    MAJORITY, VOTE, WORD, ENTER, REFILL, LONG_WORD, LONG_ENTER, LONG_REFILL, ANSWER, ANSWERS, ROW, LIST, KINDS
+    MAJORITY, VOTE, OPEN, WORD, ENTER, REFILL, LONG_WORD, LONG_ENTER, LONG_REFILL,
+    DEALT, FILL, ANSWER, ANSWERS, ROW, LIST, KINDS
 };
 
 struct input {

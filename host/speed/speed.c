@@ -1,6 +1,7 @@
 /*
- * speed CASE COUNT VERSION: makes COUNT calls of a case with one version of the functions.
- * speed CASE COUNT ratio: prints the CPU time of the library over that of plain C.
+ * speed calls CASE COUNT VERSION: makes COUNT calls of a case with one version of the functions.
+ * speed times CASE COUNT VERSION..: prints for each version the CPU time of COUNT calls in nanoseconds.
+ * speed paths N M: prints how many live paths a card that is not the sender has.
  * A case is KIND-N-M-WORDS: a kind of inputs.h in small letters alone, N cards (for a majority, N words) and
  * M rounds, WORDS agreeing or mixed.
  */
@@ -9,22 +10,32 @@
 #include <string.h>
 #include <time.h>
 
+#include "../peer/paths.h"
 #include "inputs.h"
 #include "versions.h"
 
-enum { OMH, PEER, SECOND, NONE, VERSIONS };
-
-static const struct version versions[VERSIONS] = {
-    VERSION(omh, MEASURED), VERSION(peer, MEASURED), VERSION(second, MEASURED), VERSION(none, MEASURED),
+static const struct version versions[] = {
+    VERSION(omh), VERSION(same), VERSION(bools), VERSION(any), VERSION(second), VERSION(none),
 };
+enum { VERSIONS = sizeof versions / sizeof *versions };
 
-/* Rounds of blocks for the ratio of times. */
-enum { ROUNDS = 15 };
+/* Rounds of alternating blocks for the times. */
+enum { ROUNDS = 20 };
 
 static void usage(void)
 {
-    fputs("usage: speed CASE COUNT omh|peer|second|none|ratio\n", stderr);
+    fputs("usage: speed calls CASE COUNT VERSION | times CASE COUNT VERSION.. | paths N M\n"
+          "VERSION: omh, same, bools, any, second or none\n", stderr);
     exit(2);
+}
+
+static const struct version *version_of(const char *prefix)
+{
+    for (size_t i = 0; i < VERSIONS; i++)
+        if (strcmp(prefix, versions[i].prefix) == 0)
+            return &versions[i];
+    usage();
+    return NULL;
 }
 
 #define SETTINGS in->n, in->m, in->t, in->p
@@ -41,6 +52,8 @@ static int call(const struct version *v, enum kind kind, struct input *in)
         return 0;
     case VOTE:
         return v->vote_at(SETTINGS, in->words, OMH_SLOTS, 0, &in->word);
+    case OPEN:
+        return v->open(SETTINGS, BOOK);
     case WORD:
         return v->enter(SETTINGS, BOOK, in->slot, in->told);
     case ENTER:
@@ -53,6 +66,10 @@ static int call(const struct version *v, enum kind kind, struct input *in)
         return v->books_enter_frame(SETTINGS, BOOKS, in->current, in->frame, OMH_FRAME);
     case LONG_REFILL:
         return v->books_refill(SETTINGS, BOOKS);
+    case DEALT:
+        return v->word_for(EXCHANGE, in->p, in->slot, &in->word);
+    case FILL:
+        return v->fill(EXCHANGE, in->p, BOOK);
     case ANSWER:
         return v->answer_for(EXCHANGE, in->p, &in->word);
     case ANSWERS:
@@ -90,41 +107,46 @@ static double block(const struct version *v, enum kind kind, struct input *input
     return (double)(to.tv_sec - from.tv_sec) * 1e9 + (double)(to.tv_nsec - from.tv_nsec);
 }
 
-static int by_size(const void *a, const void *b)
+/* Prints the least block of each version: what else the machine does can only make a block longer. */
+static void print_times(char **names, size_t named, enum kind kind, struct input *inputs, size_t count)
 {
-    double x = *(const double *)a, y = *(const double *)b;
-    return (x > y) - (x < y);
+    double least[VERSIONS];
+    for (int i = 0; i < ROUNDS; i++)
+        for (size_t j = 0; j < named; j++) {
+            double time = block(version_of(names[j]), kind, inputs, count);
+            if (i == 0 || time < least[j])
+                least[j] = time;
+        }
+    for (size_t j = 0; j < named; j++)
+        printf("%.0f\n", least[j]);
 }
 
-/* The library's time over plain C's, the harness's own taken out: the median of rounds of alternating blocks. */
-static double ratio(enum kind kind, struct input *inputs, size_t count)
+static void print_paths(size_t n, size_t m)
 {
-    double ratios[ROUNDS];
-    for (int i = 0; i < ROUNDS; i++) {
-        double own = block(&versions[NONE], kind, inputs, count);
-        double omh = block(&versions[OMH], kind, inputs, count);
-        double peer = block(&versions[PEER], kind, inputs, count);
-        ratios[i] = (omh - own) / (peer - own);
+    size_t live = 0;
+    for (size_t k = 0; k < OMH_SLOTS; k++) {
+        cards members = relaying(n, 0, 1);
+        live += is_live(m, k, &members);
     }
-    qsort(ratios, ROUNDS, sizeof *ratios, by_size);
-    return ratios[ROUNDS / 2];
+    printf("%zu\n", live);
 }
 
 int main(int argc, char **argv)
 {
     static struct input inputs[INPUTS];
     enum kind kind;
-    if (argc != 4 || !make_inputs(argv[1], &kind, inputs))
-        usage();
-    size_t count = strtoul(argv[2], NULL, 10);
-    if (strcmp(argv[3], "ratio") == 0) {
-        printf("%.2f\n", ratio(kind, inputs, count));
+    if (argc == 4 && strcmp(argv[1], "paths") == 0) {
+        print_paths(strtoul(argv[2], NULL, 10), strtoul(argv[3], NULL, 10));
         return 0;
     }
-    for (size_t i = 0; i < VERSIONS; i++)
-        if (strcmp(argv[3], versions[i].prefix) == 0) {
-            run(&versions[i], kind, inputs, count);
-            return 0;
-        }
-    usage();
+    if (argc < 5 || !make_inputs(argv[2], &kind, inputs))
+        usage();
+    size_t count = strtoul(argv[3], NULL, 10), named = (size_t)argc - 4;
+    if (strcmp(argv[1], "calls") == 0 && named == 1)
+        run(version_of(argv[4]), kind, inputs, count);
+    else if (strcmp(argv[1], "times") == 0 && named <= VERSIONS)
+        print_times(argv + 4, named, kind, inputs, count);
+    else
+        usage();
+    return 0;
 }

@@ -31,6 +31,22 @@ pub unsafe extern "C" fn second_vote_at(
 }
 
 #[no_mangle]
+pub unsafe extern "C" fn second_open(
+    n: usize,
+    m: usize,
+    t: usize,
+    p: usize,
+    words: *mut i32,
+    words_len: usize,
+    votes: *mut i32,
+    votes_len: usize,
+) -> u8 {
+    let words = from_raw_parts_mut(words, words_len);
+    let votes = from_raw_parts_mut(votes, votes_len);
+    number(book::open(Settings { n, m, t, p }, words, votes))
+}
+
+#[no_mangle]
 pub unsafe extern "C" fn second_enter(
     n: usize,
     m: usize,
@@ -85,6 +101,19 @@ pub unsafe extern "C" fn second_enter_frame(
 }
 
 #[no_mangle]
+pub unsafe extern "C" fn second_books_open(
+    n: usize,
+    m: usize,
+    t: usize,
+    p: usize,
+    books: *mut i32,
+    books_len: usize,
+) -> u8 {
+    let books = from_raw_parts_mut(books, books_len);
+    number(books::open(Settings { n, m, t, p }, books))
+}
+
+#[no_mangle]
 pub unsafe extern "C" fn second_books_enter(
     n: usize,
     m: usize,
@@ -130,6 +159,49 @@ pub unsafe extern "C" fn second_books_enter_frame(
 }
 
 #[no_mangle]
+pub unsafe extern "C" fn second_word_for(
+    n: usize,
+    m: usize,
+    t: usize,
+    x: i32,
+    statuses: *const u8,
+    statuses_len: usize,
+    table: *const i32,
+    table_len: usize,
+    p: usize,
+    slot: usize,
+    word: *mut i32,
+) -> u8 {
+    let statuses = from_raw_parts(statuses, statuses_len);
+    let table = from_raw_parts(table, table_len);
+    let exchange = Exchange { n, m, t, x, statuses, table };
+    number(exchange::word(&exchange, p, slot).map(|dealt| *word = dealt))
+}
+
+#[no_mangle]
+pub unsafe extern "C" fn second_fill(
+    n: usize,
+    m: usize,
+    t: usize,
+    x: i32,
+    statuses: *const u8,
+    statuses_len: usize,
+    table: *const i32,
+    table_len: usize,
+    p: usize,
+    words: *mut i32,
+    words_len: usize,
+    votes: *mut i32,
+    votes_len: usize,
+) -> u8 {
+    let statuses = from_raw_parts(statuses, statuses_len);
+    let table = from_raw_parts(table, table_len);
+    let words = from_raw_parts_mut(words, words_len);
+    let votes = from_raw_parts_mut(votes, votes_len);
+    number(exchange::fill_book(&Exchange { n, m, t, x, statuses, table }, p, words, votes))
+}
+
+#[no_mangle]
 pub unsafe extern "C" fn second_answer_for(
     n: usize,
     m: usize,
@@ -166,6 +238,11 @@ pub unsafe extern "C" fn second_all_answers(
     let table = from_raw_parts(table, table_len);
     let answers = from_raw_parts_mut(answers, answers_len);
     number(exchange::answers(&Exchange { n, m, t, x, statuses, table }, answers))
+}
+
+#[no_mangle]
+pub unsafe extern "C" fn second_outcome_start(outcome: *mut i32, outcome_len: usize) -> u8 {
+    number(outcome::start_list(from_raw_parts_mut(outcome, outcome_len)))
 }
 
 #[no_mangle]
