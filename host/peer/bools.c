@@ -1,4 +1,4 @@
-/* The same form with sets of cards as ten bools, as the library has them: what masks gain. */
+/* The same form with sets of cards as ten bools, handed on by value: at most what masks gain. */
 #define FORM bools
 #define TEN_BOOLS
 

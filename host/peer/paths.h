@@ -1,4 +1,4 @@
-/* Document 01, 'Settings and paths'. A set of cards is ten bools, as in the library, or a mask, a bit for each card. */
+/* Document 01, 'Settings and paths'. A set of cards is ten bools, or a mask, a bit for each card. */
 #ifndef PEER_PATHS_H
 #define PEER_PATHS_H
 
