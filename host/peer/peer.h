@@ -1,5 +1,5 @@
 /*
- * The library's calls in plain C, to measure the proved ones against. Each takes, refuses and answers what its
+ * The library's calls in C, to measure the proved ones against. Each takes, refuses and answers what its
  * namesake in omh.h does; same.c, bools.c and any.c say by which form.
  */
 #ifndef PEER_H

@@ -1,6 +1,6 @@
 /*
  * The versions that are measured, each with functions of omh.h under its own
- * prefix: the proved library, plain C in two forms, the second program, and
+ * prefix: the proved library, C in its forms, the second program, and
  * functions that return at once.
  */
 #ifndef VERSIONS_H

@@ -6,7 +6,7 @@ use mathlib.Core.List.{List, [], _∷_, _++_, append-nil}
 use native.Mathlib.Numerals.{add-one, sub-one}
 use native.Mathlib.Omega.{arith}
 use lib.IntN.{ℤ}
-use lib.ListN.{length, set, take, length-append, length-set}
+use lib.ListN.{length, set, take, length-set}
 use lib.Seq.{take-suc-set, take-set-le}
 use Rattle.words.specs.Majority.{kept}
 use Rattle.words.specs.Rule.{Rule, majorityBy}
@@ -23,7 +23,6 @@ pub record Reporting (s : ℤ → Bool) (p : ℕ → Bool) (f : ℕ → ℤ) (ow
   pub upto : q ≤ 10
   pub few : count ≤ q + 1
   pub long : length reports ≡ 11
-  pub counted : count ≡ length (kept s (own ∷ over p f q 0))
   pub so-far : take count reports ≡ kept s (own ∷ over p f q 0)
 
 -- a word's weight is at most 1
@@ -38,8 +37,8 @@ report-first s p f [] e w = absurd (omega arith)
 report-first s p f (x ∷ xs) {count} e w = go (s x) refl
   where
     go : (b : Bool) → s x ≡ b → Reporting s p f x 0 (x ∷ xs) count
-    go true t = rw (w, t) (record { upto = omega arith; few = omega arith; long = e; counted = rw t; so-far = rw t })
-    go false t = rw (w, t) (record { upto = omega arith; few = omega arith; long = e; counted = rw t; so-far = rw t })
+    go true t = rw (w, t) (record { upto = omega arith; few = omega arith; long = e; so-far = rw t })
+    go false t = rw (w, t) (record { upto = omega arith; few = omega arith; long = e; so-far = rw t })
 
 module _ {s : ℤ → Bool} {p : ℕ → Bool} {f : ℕ → ℤ} {own : ℤ} {q : ℕ} {reports : List ℤ} {count : ℕ} (r : Reporting s p f own q reports count) where
   abbrev left : List ℤ
@@ -80,7 +79,6 @@ module _ {s : ℤ → Bool} {p : ℕ → Bool} {f : ℕ → ℤ} {own : ℤ} {q 
               upto = omega arith;
               few = omega (arith, r .few);
               long = long;
-              counted = omega (arith, r .counted, ap length same);
               so-far = rw none (take-set-le count reports count (f q) (omega arith)) ∙ r .so-far ∙ sym same;
             }
         go false u =
@@ -89,12 +87,11 @@ module _ {s : ℤ → Bool} {p : ℕ → Bool} {f : ℕ → ℤ} {own : ℤ} {q 
               upto = omega arith;
               few = omega (arith, r .few);
               long = long;
-              counted = omega (arith, r .counted, ap length longer, length-append left (f q ∷ []));
               so-far = rw (add-one, take-suc-set reports count (f q) (omega (arith, r .long, r .few))) (ap (λ (l : List ℤ). l ++ (f q ∷ [])) (r .so-far)) ∙ sym longer;
             }
 
     pub report-same : p q ≡ false → reports′ ≡ reports → count′ ≡ count → Reporting s p f own (q + 1) reports′ count′
-    report-same t a b = rw (a, b) (record { upto = omega arith; few = omega (arith, r .few); long = r .long; counted = r .counted ∙ ap length (sym (by-none t)); so-far = r .so-far ∙ sym (by-none t) })
+    report-same t a b = rw (a, b) (record { upto = omega arith; few = omega (arith, r .few); long = r .long; so-far = r .so-far ∙ sym (by-none t) })
 
 -- ---- the vote's two cases
 
