@@ -44,8 +44,13 @@ uint8_t books_enter_frame(const struct settings *s, struct books *books, uint16_
     return omh_books_enter_frame(s->n, s->m, s->t, s->p, books->list, OMH_BOOKS, current, frame, length);
 }
 
+const int32_t *books_words(size_t t, const struct books *books)
+{
+    return books->list + OMH_BOOK * t;
+}
+
 uint8_t books_answer(size_t t, const struct books *books, int32_t *answer)
 {
-    const int32_t *words = books->list + OMH_BOOK * t, *votes = words + OMH_SLOTS;
+    const int32_t *words = books_words(t, books), *votes = words + OMH_SLOTS;
     return omh_held_answer(words, OMH_SLOTS, votes, OMH_SLOTS, answer);
 }

@@ -36,4 +36,7 @@ uint8_t books_enter_frame(const struct settings *s, struct books *books, uint16_
                           const uint8_t *frame, size_t length);
 uint8_t books_answer(size_t t, const struct books *books, int32_t *answer);
 
+/* The words of the sender t's book, by slot. */
+const int32_t *books_words(size_t t, const struct books *books);
+
 #endif

@@ -2,6 +2,7 @@
 #include "book.h"
 #include "commands.h"
 #include "ending.h"
+#include "fields.h"
 #include "frame_refusals.h"
 #include "lines.h"
 #include "number.h"
@@ -24,9 +25,15 @@ static const char help[] =
     "  garbled line L column C: what is wrong\n"
     "K is the refusal's number. The path is the frame's sender and used relays; it is\n"
     "left out where the bytes have not a frame's length, mark and version. A garbled\n"
-    "line is not hex. A line `answer A` has the held answer, - where there is none,\n"
-    "at the start and whenever it changes. With `all` a line `answer T A` has the\n"
-    "held answer of the book of sender T whenever it changes; all start as -.\n"
+    "line is not hex.\n"
+    "\n"
+    "After `accepted`, `contradicted T Q..: V, then W` tells that the frame's path\n"
+    "held the word V and got another, W; - is E. From then on the path's word reads\n"
+    "as missing, whatever comes there, and no more is told of it.\n"
+    "\n"
+    "A line `answer A` has the held answer, - where there is none, at the start and\n"
+    "whenever it changes. With `all` a line `answer T A` has the held answer of the\n"
+    "book of sender T whenever it changes; all start as -.\n"
     "\n"
     "For example, card 3 among 4 cards is told 30 by card 0, and 45 by card 1:\n"
     "  { bench frame make 0 0 0 - - - 3 30; bench frame make 0 1 0 - - - 3 45; } |\n"
@@ -64,28 +71,51 @@ static void tell_answer(struct card *card)
     puts(word_text(card->answers[t], text));
 }
 
-/* The sender that the frame names. Where it names no card of the rack, or is no
-   frame: 0, whose book refuses it, as every other would. */
-static size_t sender_of(const struct card *card, const struct bytes *frame)
+/* The sender that the frame names. Where that is no card of the rack: 0, whose
+   book refuses the frame, as every other would. */
+static size_t sender_of(const struct card *card, const int32_t fields[OMH_FIELDS])
 {
-    int32_t fields[OMH_FIELDS];
-    if (omh_read_frame(frame->at, bytes_kept(frame), fields) != 0 || (size_t)fields[OMH_SENDER] >= card->settings.n)
-        return 0;
-    return (size_t)fields[OMH_SENDER];
+    size_t sender = (size_t)fields[OMH_SENDER];
+    return sender < card->settings.n ? sender : 0;
+}
+
+/* The word of the frame's path in the book in use. Not refused, as the fields are well formed. */
+static const int32_t *word_at(const struct card *card, const int32_t fields[OMH_FIELDS])
+{
+    size_t slot = 0;
+    omh_slot_of((size_t)fields[OMH_LEVEL], (size_t)fields[OMH_Q1], (size_t)fields[OMH_Q2], (size_t)fields[OMH_Q3],
+                &slot);
+    return books_words(card->settings.t, &card->books) + slot;
+}
+
+/* Tells of a path that holds contradicted where another word stood. */
+static void tell_contradicted(const int32_t fields[OMH_FIELDS], int32_t stood, int32_t stands)
+{
+    char text[WORD_TEXT], came[WORD_TEXT];
+    if (stands != OMH_CONTRADICTED || stood == OMH_CONTRADICTED || stood == OMH_E)
+        return;
+    fputs("contradicted", stdout);
+    fields_print_path(fields);
+    printf(": %s, then %s\n", word_text(stood, text), word_text(fields[OMH_WORD], came));
 }
 
 /* Answers whether the frame was accepted. */
 static bool enter_frame(struct card *card, const struct bytes *frame, uint64_t line)
 {
     struct settings *s = &card->settings;
+    int32_t fields[OMH_FIELDS] = {0};       /* of bytes that are no frame: they are refused below */
+    omh_read_frame(frame->at, bytes_kept(frame), fields);
     if (card->all)
-        s->t = sender_of(card, frame);
+        s->t = sender_of(card, fields);
+    const int32_t *word = word_at(card, fields);
+    int32_t stood = *word;
     uint8_t refused = books_enter_frame(s, &card->books, card->exchange, frame->at, bytes_kept(frame));
     if (refused != 0) {
         print_not_entered(refused, line, frame, s, card->exchange);
         return false;
     }
     puts("accepted");
+    tell_contradicted(fields, stood, *word);
     if (held_answer(card) != card->answers[s->t])
         tell_answer(card);
     return true;

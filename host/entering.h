@@ -5,9 +5,11 @@
 #include "book.h"
 #include "trial.h"
 
-/* A book that is opened and into which the exchange's words are entered in
-   random order, some as frames, with other words before them and refused ones
-   between them: it ends at the card's answer. */
+/* Two books that are opened and entered word by word in random order, with some
+   words as frames and refused ones between them. Into the first come the words
+   dealt to the card, each once or more often: it ends at the card's answer. Into
+   the second come any words: each slot holds what the soak's own account says,
+   the held answer is the vote over that, and filling deals over all of it. */
 bool entering_is_right(struct trial *trial, const struct settings *s);
 
 #endif

@@ -43,7 +43,7 @@ static int32_t draw_ordinary(struct random *random)
 static int32_t draw_other(struct random *random)
 {
     static const int32_t others[] = {
-        OMH_E, OMH_E + 1, OMH_E + 2, OMH_E + 3, OMH_E + 4, INT32_MAX, -OMH_E, INT32_MIN,
+        OMH_E, OMH_E + 1, OMH_E + 2, OMH_E + 3, OMH_E + 4, OMH_CONTRADICTED, INT32_MAX, -OMH_E, INT32_MIN,
     };
     return others[random_below(random, sizeof others / sizeof others[0])];
 }

@@ -3,6 +3,9 @@
 
 #include "path.h"
 
+#include <inttypes.h>
+#include <stdio.h>
+
 const char *const field_names[OMH_FIELDS] = {
     [OMH_EXCHANGE] = "EXCHANGE", [OMH_SENDER] = "SENDER", [OMH_LEVEL] = "LEVEL",
     [OMH_Q1] = "Q1", [OMH_Q2] = "Q2", [OMH_Q3] = "Q3",
@@ -20,6 +23,13 @@ void fields_of(const struct settings *s, uint16_t exchange, size_t slot, int32_t
     fields[OMH_Q3] = path.relays[2];
     fields[OMH_RECEIVER] = (int32_t)s->p;
     fields[OMH_WORD] = word;
+}
+
+void fields_print_path(const int32_t fields[OMH_FIELDS])
+{
+    printf(" %" PRId32, fields[OMH_SENDER]);
+    for (int32_t i = 0; i < fields[OMH_LEVEL] && i < OMH_ROUNDS; i++)
+        printf(" %" PRId32, fields[OMH_Q1 + i]);
 }
 
 uint8_t fields_write(const int32_t fields[OMH_FIELDS], uint8_t *buffer, size_t length)

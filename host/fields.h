@@ -10,6 +10,9 @@ extern const char *const field_names[OMH_FIELDS];
 /* The fields of the frame that brings p a word on the path of a slot. */
 void fields_of(const struct settings *s, uint16_t exchange, size_t slot, int32_t word, int32_t fields[OMH_FIELDS]);
 
+/* Prints their path on standard output, a blank before each of its cards: the sender, then the used relays. */
+void fields_print_path(const int32_t fields[OMH_FIELDS]);
+
 /* Writes their frame; answers 0 or the refusal's number. */
 uint8_t fields_write(const int32_t fields[OMH_FIELDS], uint8_t *buffer, size_t length);
 

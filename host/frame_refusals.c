@@ -20,9 +20,8 @@ static void print_number(uint8_t number, uint64_t line)
 
 static void print_path(const int32_t fields[OMH_FIELDS])
 {
-    printf(" path %" PRId32, fields[OMH_SENDER]);
-    for (int32_t i = 0; i < fields[OMH_LEVEL] && i < OMH_ROUNDS; i++)
-        printf(" %" PRId32, fields[OMH_Q1 + i]);
+    fputs(" path", stdout);
+    fields_print_path(fields);
 }
 
 /* A frame's fields but the word, which is never wrong. */

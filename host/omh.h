@@ -38,7 +38,7 @@ extern "C" {
 #endif
 
 /* The version of header and archive, stated here alone. */
-#define OMH_VERSION "1.1.1"
+#define OMH_VERSION "2.0.0"
 
 enum {
     OMH_CARDS = 10,     /* the greatest number of cards */
@@ -57,6 +57,10 @@ enum {
    OMH_E + w, for w from 1 to 3, missing and wrapped w times. Every other
    number is bad. */
 #define OMH_E INT32_C(1000000000)
+
+/* What a slot holds after two different words on its path: a bad word, which
+   reads as OMH_E. */
+#define OMH_CONTRADICTED INT32_C(1000000009)
 
 /* A card's status on the bench; 0 from card n up. */
 enum {
@@ -183,21 +187,24 @@ uint8_t omh_vote_at(size_t n, size_t m, size_t t, size_t p,
                     const int32_t *words, size_t words_len,
                     size_t slot, int32_t *vote);
 
-/* ---- the book: two lists of OMH_SLOTS words, those received and the votes */
+/* ---- the book: two lists of OMH_SLOTS words, those received and the votes.
+   A slot that holds OMH_E takes any word, as it is. The same word again leaves
+   the slot; a different one, OMH_E among them, makes it OMH_CONTRADICTED, which
+   stays until the book is opened anew or filled. */
 
-/* Sets every word and every vote to OMH_E. 1, 2, 3, 4, 5 */
+/* Sets every word and every vote, live or not, to OMH_E. 1, 2, 3, 4, 5 */
 uint8_t omh_open(size_t n, size_t m, size_t t, size_t p,
                  int32_t *words, size_t words_len,
                  int32_t *votes, size_t votes_len);
 
-/* Stores a word at a slot, and makes the votes there and at each slot above
-   again. 1, 2, 3, 4, 5, 8 */
+/* Gives a slot a word, and makes the votes there and at each slot above again,
+   also where the slot stays as it was. 1, 2, 3, 4, 5, 8 */
 uint8_t omh_enter(size_t n, size_t m, size_t t, size_t p,
                   int32_t *words, size_t words_len,
                   int32_t *votes, size_t votes_len,
                   size_t slot, int32_t word);
 
-/* Makes every live vote again from the words. 1, 2, 3, 4, 5 */
+/* Makes every live vote again from the words, which stay. 1, 2, 3, 4, 5 */
 uint8_t omh_refill(size_t n, size_t m, size_t t, size_t p,
                    const int32_t *words, size_t words_len,
                    int32_t *votes, size_t votes_len);
@@ -215,7 +222,7 @@ uint8_t omh_held_answer(const int32_t *words, size_t words_len,
 uint8_t omh_books_open(size_t n, size_t m, size_t t, size_t p,
                        int32_t *books, size_t books_len);
 
-/* Enters a word in the book of t. 1, 2, 3, 4, 5, 8 */
+/* Enters a word in the book of t, as omh_enter does. 1, 2, 3, 4, 5, 8 */
 uint8_t omh_books_enter(size_t n, size_t m, size_t t, size_t p,
                         int32_t *books, size_t books_len,
                         size_t slot, int32_t word);
@@ -245,7 +252,8 @@ uint8_t omh_write_frame(uint16_t exchange, uint8_t sender, uint8_t level,
                         uint8_t receiver, int32_t word,
                         uint8_t *buffer, size_t buffer_len);
 
-/* Enters a frame in a book; `current` is the exchange number.
+/* Enters a frame's word in a book, as omh_enter does; `current` is the
+   exchange number.
    1, 2, 3, 4, 5, 9, 10, 11, 14, 12, 13, 15, 8 */
 uint8_t omh_enter_frame(size_t n, size_t m, size_t t, size_t p,
                         int32_t *words, size_t words_len,
@@ -281,7 +289,9 @@ uint8_t omh_all_answers(size_t n, size_t m, size_t t, int32_t x,
                         const int32_t *table, size_t table_len,
                         int32_t *answers, size_t answers_len);
 
-/* Fills a book for card p. 1, 2, 3, 4, 5, 7, 6 */
+/* Fills a book for card p: the words that it receives stand at the live slots,
+   over what was there, with their votes; the rest is untouched.
+   1, 2, 3, 4, 5, 7, 6 */
 uint8_t omh_fill(size_t n, size_t m, size_t t, int32_t x,
                  const uint8_t *statuses, size_t statuses_len,
                  const int32_t *table, size_t table_len, size_t p,

@@ -11,9 +11,10 @@ static const char help[] =
     "usage: bench soak [--seed S] [--count C] [--first F] [--progress]\n"
     "\n"
     "Tries the library with C random exchanges, 10000 if C is not given. Checks that\n"
-    "within the bound the good cards agree and answer what they should, and that a\n"
-    "book ends at its card's answer when the words come in any order, as frames or\n"
-    "not, with second words and refused ones among them.\n"
+    "within the bound the good cards agree and answer what they should; that a book\n"
+    "ends at its card's answer when the words come in any order, once or more often,\n"
+    "as frames or not, with refused ones among them; and that a slot holds what it\n"
+    "should when different words come on its path.\n"
     "\n"
     "The seed S is printed; if it is not given it comes from the clock. Exchanges are\n"
     "numbered from 1 to 18446744073709551615, and --first F begins with exchange F of\n"
@@ -106,6 +107,7 @@ static int run(int count, char **arguments)
     print_count("exchanges", soak.exchanges);
     print_count("within the bound", soak.within);
     print_count("enterings", trial.enterings);
+    print_count("contradictions", trial.contradictions);
     print_count("refusals", trial.refusals);
     print_count("failures", trial.failure != NULL);
     return trial.failure == NULL ? DONE : REFUSED;

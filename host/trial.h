@@ -13,6 +13,7 @@ struct trial {
     bool within;                    /* the bound holds */
     int32_t answers[OMH_CARDS];     /* as omh_all_answers gives them */
     uint64_t enterings;             /* accepted, of this trial and those before it */
+    uint64_t contradictions;        /* of these, words that left their slot contradicted, likewise */
     uint64_t refusals;              /* met as expected, likewise */
     const char *failure;            /* what was not as it should be; null if all was */
     int64_t got, due;               /* of the failure */

@@ -3,7 +3,6 @@
 
 #include "answering.h"
 #include "entering.h"
-#include "filling.h"
 #include "refusing.h"
 
 bool trial_run(struct trial *trial, uint64_t seed, uint64_t number)
@@ -15,6 +14,5 @@ bool trial_run(struct trial *trial, uint64_t seed, uint64_t number)
     struct settings card = {e->n, e->m, e->t, random_below(&trial->random, e->n)};
     return answering_is_right(trial)
         && writing_is_refused(trial)
-        && filling_is_right(trial, &card)
         && entering_is_right(trial, &card);
 }

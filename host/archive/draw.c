@@ -10,6 +10,7 @@
 #include <string.h>
 
 enum {
+    TOLD = 2,               /* words that come to a book again and again */
     GUARD = 64,             /* bytes beside a list that a call must leave alone */
     MOST = OMH_BOOKS * sizeof(int32_t) + GUARD,     /* the longest list */
     HEAD = 24,              /* a listing file's bytes before its exceptions, */
@@ -22,6 +23,7 @@ static struct request request;
 static uint8_t blocks[LISTS][MOST];
 static size_t lengths[LISTS];           /* of the lists, as they are */
 static struct settings s;
+static int32_t told[TOLD];
 
 /* ---- requests */
 
@@ -89,6 +91,19 @@ static void lend_words(size_t i, size_t length)
         words[k] = few[below(1 + below(spread))];
 }
 
+/* From here on another book is told words. */
+static void tell_another(void)
+{
+    for (size_t i = 0; i < TOLD; i++)
+        told[i] = any_word();
+}
+
+/* A word that comes to the book: any, or one that may have come on its path before. */
+static int32_t told_word(void)
+{
+    return below(2) == 0 ? any_word() : told[below(TOLD)];
+}
+
 static uint8_t *put(uint8_t *at, uint64_t value, size_t bytes)
 {
     while (bytes-- > 0)
@@ -136,7 +151,7 @@ static void lend_frame(size_t i, uint16_t current)
     for (size_t k = 0; k < OMH_ROUNDS; k++)
         at = put(at, mostly(path.relays[k]), 1);
     at = put(at, mostly(s.p), 1);
-    put(at, (uint32_t)any_word(), 4);
+    put(at, (uint32_t)told_word(), 4);
     if (spoils())
         frame[below(OMH_FRAME)] ^= (uint8_t)(1u << below(8));
 }
@@ -231,7 +246,7 @@ static void ask_of_book(uint16_t current)
         break;
     default:
         number(4, slot_draw(&s));
-        number_word(5, any_word());
+        number_word(5, told_word());
         ask(CALL_omh_enter, 2);
     }
 }
@@ -240,6 +255,7 @@ static void ask_of_book(uint16_t current)
 static void ask_book(void)
 {
     s = settings_draw();
+    tell_another();
     lend_words(0, OMH_SLOTS);
     lend_words(1, OMH_SLOTS);
     if (below(3) > 0) {
@@ -270,7 +286,7 @@ static void ask_of_books(uint16_t current)
         break;
     default:
         number(4, slot_draw(&s));
-        number_word(5, any_word());
+        number_word(5, told_word());
         ask(CALL_omh_books_enter, 1);
     }
 }
@@ -279,6 +295,7 @@ static void ask_of_books(uint16_t current)
 static void ask_books(void)
 {
     s = settings_draw();
+    tell_another();
     lend_words(0, OMH_BOOKS);
     uint16_t current = (uint16_t)any();
     for (int i = 0; i < 20; i++)

@@ -62,7 +62,7 @@ int32_t any_word(void)
 {
     static const int32_t ends[] = {
         0, 1, -1, OMH_E - 1, 1 - OMH_E, OMH_E, OMH_E + 1, OMH_E + 2, OMH_E + 3,
-        OMH_E + 4, -OMH_E, -OMH_E - 1, INT32_MAX, INT32_MIN,
+        OMH_E + 4, OMH_CONTRADICTED, -OMH_E, -OMH_E - 1, INT32_MAX, INT32_MIN,
     };
     return random_once_in(&state, 3) ? (int32_t)any() : ends[below(sizeof ends / sizeof ends[0])];
 }

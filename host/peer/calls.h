@@ -152,6 +152,13 @@ static inline void walk_up(const int32_t *words, int32_t *votes, cards members, 
     }
 }
 
+/* Document 02's Q-2: the same word again leaves what a slot holds, and another is stored over E alone. */
+static inline void take(int32_t *held, int32_t word)
+{
+    if (*held != word)
+        *held = *held == OMH_E ? word : OMH_CONTRADICTED;
+}
+
 /* Enters a word at a slot, or refuses it with 8. */
 static uint8_t enter(size_t n, size_t m, size_t t, size_t p,
                      int32_t *words, int32_t *votes, size_t slot, int32_t word)
@@ -159,7 +166,7 @@ static uint8_t enter(size_t n, size_t m, size_t t, size_t p,
     cards members = relaying(n, t, p);
     if (!is_live(m, slot, &members))
         return OMH_REFUSED_PATH;
-    words[slot] = word;
+    take(&words[slot], word);
     size_t d = level_of(slot);
     walk_up(words, votes, members, t == p ? 0 : m - d, d, slot);
     return 0;

@@ -143,11 +143,11 @@ static size_t length(size_t right)
 /* Words out of a few, the first ones most often, so that some have the majority and some have not. */
 static void some_words(int32_t *words, size_t len)
 {
-    static const int32_t edges[] = {OMH_E, OMH_E + 1, OMH_E + 2, OMH_E + 3, OMH_E + 4, OMH_E - 1,
+    static const int32_t edges[] = {OMH_E, OMH_E + 1, OMH_E + 2, OMH_E + 3, OMH_E + 4, OMH_CONTRADICTED, OMH_E - 1,
                                     1 - OMH_E, -OMH_E, INT32_MIN, INT32_MAX, 0, -120};
     int32_t few[6];
     for (size_t i = 0; i < 6; i++)
-        few[i] = below(3) ? edges[below(12)] : (int32_t)below(UINT32_MAX);
+        few[i] = below(3) ? edges[below(13)] : (int32_t)below(UINT32_MAX);
     size_t spread = 1 + below(6);
     for (size_t i = 0; i < len; i++)
         words[i] = few[below(1 + below(spread))];

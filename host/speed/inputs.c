@@ -55,8 +55,14 @@ static void make_file(struct input *in)
     }
 }
 
-/* Input i, the votes of its book refilled; for a majority, n is the length of the list. */
-static void make_input(struct input *in, size_t i, size_t n, size_t m, bool mixed)
+static bool enters(enum kind kind)
+{
+    return kind == WORD || kind == ENTER || kind == LONG_WORD || kind == LONG_ENTER;
+}
+
+/* Input i, the votes of its book refilled; for a majority, n is the length of the list. Where a word is entered, its
+   slot holds it already: every call leaves the book as it is. */
+static void make_input(struct input *in, size_t i, enum kind kind, size_t n, size_t m, bool mixed)
 {
     in->n = n;
     in->m = m;
@@ -66,6 +72,8 @@ static void make_input(struct input *in, size_t i, size_t n, size_t m, bool mixe
         in->words[k] = some_word(mixed);
     in->current = 3;
     make_frame(in, some_word(mixed));
+    if (enters(kind))
+        in->words[in->slot] = in->told;
     in->x = -120;
     for (size_t q = 0; q < n; q++)
         in->statuses[q] = (uint8_t)(mixed ? below(4) : 0);
@@ -79,12 +87,21 @@ static void make_input(struct input *in, size_t i, size_t n, size_t m, bool mixe
     }
 }
 
-bool make_inputs(const char *name, enum kind *kind, struct input inputs[INPUTS])
+/* The kind of this name; KINDS if there is none. */
+static enum kind kind_of(const char *name)
 {
     static const char *const kinds[KINDS] = {
         "majority", "vote", "open", "word", "enter", "refill", "longword", "longenter", "longrefill",
         "dealt", "fill", "answer", "answers", "row", "list",
     };
+    enum kind kind = MAJORITY;
+    while (kind < KINDS && strcmp(name, kinds[kind]) != 0)
+        kind++;
+    return kind;
+}
+
+bool make_inputs(const char *name, enum kind *kind, struct input inputs[INPUTS])
+{
     char kind_name[12], words[10];
     size_t n, m;
     if (sscanf(name, "%11[a-z]-%zu-%zu-%9s", kind_name, &n, &m, words) != 4 || n < 2 || n > OMH_CARDS)
@@ -92,10 +109,10 @@ bool make_inputs(const char *name, enum kind *kind, struct input inputs[INPUTS])
     bool mixed = strcmp(words, "mixed") == 0;
     if (!mixed && strcmp(words, "agreeing") != 0)
         return false;
+    *kind = kind_of(kind_name);
+    if (*kind == KINDS)
+        return false;
     for (size_t i = 0; i < INPUTS; i++)
-        make_input(&inputs[i], i, n, m, mixed);
-    for (*kind = MAJORITY; *kind < KINDS; ++*kind)
-        if (strcmp(kind_name, kinds[*kind]) == 0)
-            return true;
-    return false;
+        make_input(&inputs[i], i, *kind, n, m, mixed);
+    return true;
 }

@@ -18,14 +18,15 @@ gives 'the frames that README shows' 0 "$agree" "$bench" card 4 1 0 3 <host/test
 gives 'frames in a slow pipe' 0 "$agree" "$bench" card 4 1 0 3 < <(slowly <"$scratch/agree")
 gives 'no frame' 0 $'answer -\n' "$bench" card 4 1 0 3 </dev/null
 gives 'no LF at the end' 0 $'answer -\naccepted\nanswer 30\n' "$bench" card 4 1 0 3 < <(printf '%s' "$(frame 0 - - - 30)")
-gives 'a second word' 0 $'answer -\naccepted\nanswer 30\naccepted\nanswer -31\naccepted\n' \
-    "$bench" card 4 1 0 3 < <(frame 0 - - - 30; frame 0 - - - -31; frame 0 - - - -31)
 gives 'remarks, blank lines and CR LF' 0 $'answer -\naccepted\nanswer 30\naccepted\nanswer -\n' \
     "$bench" card 4 1 0 3 < <(printf '# first\r\n\r\n %s \r\n \t\n#%s\n  # last\n%s' \
-        "$(frame 0 - - - 30)" "$(frame 0 - - - 9)" "$(frame 0 - - - 2000000000)")
-gives 'words of any kind' 0 \
-    $'answer -\naccepted\naccepted\nanswer 999999999\naccepted\nanswer -\naccepted\nanswer -999999999\n' \
-    "$bench" card 4 0 0 3 < <(for word in 1000000001 999999999 -1000000000 -999999999; do frame 0 - - - "$word"; done)
+        "$(frame 0 - - - 30)" "$(frame 0 - - - 9)" "$(frame 1 1 - - 10)")
+for word in 1000000001 -1000000000 2000000000 1000000009; do
+    gives "the sender's word $word" 0 $'answer -\naccepted\n' "$bench" card 4 0 0 3 < <(frame 0 - - - "$word")
+done
+for word in 999999999 -999999999; do
+    gives "the sender's word $word" 0 $'answer -\naccepted\nanswer '"$word"$'\n' "$bench" card 4 0 0 3 < <(frame 0 - - - "$word")
+done
 
 # Each refusal that a frame can meet, with the field that is wrong, and lines that are not hex: the session goes on.
 gives 'frames that are refused' 1 "answer -
@@ -102,9 +103,9 @@ while read -r -a numbers; do
     printf '%02X' "${numbers[@]}"
     echo
 done < <(damaged 4F4D4800010101000102FFFF0300000005) >"$scratch/damaged"
-# What a card makes of them, without the answers and the reasons.
+# What a card makes of them, without the answers, the contradictions and the reasons.
 damaged_for() { # T
-    "$bench" card 4 1 "$1" 3 257 <"$scratch/damaged" | sed '/^answer/d; s/: .*//'
+    "$bench" card 4 1 "$1" 3 257 <"$scratch/damaged" | sed '/^answer/d; /^contradicted/d; s/: .*//'
     echo "status ${PIPESTATUS[0]}"
 }
 match 'damaged frames, some of which are accepted' *accepted*$'\n' "$due"
@@ -144,14 +145,14 @@ answer 30
 garbled line 3 column 10000001: 'x' is no hex digit
 garbled line 5 column 1: 'x' is no hex digit
 accepted
-answer 31
+answer -
 " small card 4 1 0 3 < <(
     long 0; echo
     long ' '; frame 0 - - - 30
     long ' '; echo x
     echo -n '#'; long '#'; echo
     long x; echo
-    frame 0 - - - 31)
+    frame 1 1 - - 31)
 gives 'closed standard input' 2 $'answer -\n' bash -c '"$0" card 4 1 0 3 <&-' "$bench"
 says 'closed standard input' 'bench: standard input: Bad file descriptor'
 wrong 'a full disk' 'standard output: No space left on device' bash -c '"$0" card 4 1 0 3 >/dev/full' "$bench" <"$scratch/agree"
@@ -171,6 +172,54 @@ done <"$scratch/agree"
 exec {to}>&- {from}<&-
 wait $!
 equal 'answers are not held back' 'answer - accepted answer 30 accepted answer - accepted ' "$said"
+
+# ---- two different words on one path
+
+# Two tests: what card 3 of n 6, m 3 tells of these frames, in the sender's book alone and among all.
+tells() { # NAME OUTPUT FRAME.., a frame as the words that `frame` takes
+    local name=$1 output=$2 words
+    shift 2
+    for words; do frame $words; done >"$scratch/frames"
+    gives "$name" 0 $'answer -\n'"$output" "$bench" card 6 3 0 3 <"$scratch/frames"
+    gives "$name, among all books" 0 "${output//answer /answer 0 }" "$bench" card 6 3 all 3 <"$scratch/frames"
+}
+tells 'a second word of the sender, and a third' \
+    $'accepted\nanswer 30\naccepted\ncontradicted 0: 30, then -31\nanswer -\naccepted\n' \
+    '0 - - - 30' '0 - - - -31' '0 - - - 7'
+tells 'a second word by one relay, which changes the answer' \
+    $'accepted\nanswer 30\naccepted\nanswer -\naccepted\ncontradicted 0 1: 10, then 20\nanswer 30\naccepted\n' \
+    '0 - - - 30' '1 1 - - 10' '1 1 - - 20' '1 1 - - 10'
+tells 'a second word by one relay, which changes no answer' \
+    $'accepted\nanswer 30\naccepted\naccepted\naccepted\ncontradicted 0 1: 30, then 31\n' \
+    '0 - - - 30' '1 1 - - 30' '1 2 - - 30' '1 1 - - 31'
+tells 'a second word by two relays, which changes the answer' \
+    $'accepted\nanswer 30\naccepted\nanswer -\naccepted\nanswer 30\naccepted\nanswer -\naccepted\nanswer 10\n'\
+$'accepted\ncontradicted 0 1 2: 10, then 11\nanswer -\n' \
+    '0 - - - 30' '1 1 - - 20' '2 1 2 - 10' '2 1 4 - 10' '1 2 - - 10' '2 1 2 - 11'
+tells 'a second word by two relays, which changes no answer' $'accepted\nanswer 30\naccepted\naccepted\ncontradicted 0 4 1: 8, then 9\n' \
+    '0 - - - 30' '2 4 1 - 8' '2 4 1 - 9'
+tells 'a second word by three relays' $'accepted\naccepted\ncontradicted 0 5 4 1: -8, then -9\n' '3 5 4 1 -8' '3 5 4 1 -9'
+tells 'E after a word' $'accepted\nanswer 30\naccepted\ncontradicted 0: 30, then -\nanswer -\naccepted\n' \
+    '0 - - - 30' '0 - - - -' '0 - - - 30'
+tells 'a word after E' $'accepted\naccepted\naccepted\nanswer 30\n' '0 - - - -' '0 - - - -' '0 - - - 30'
+tells 'the same words again' $'accepted\nanswer 30\naccepted\naccepted\naccepted\naccepted\naccepted\n' \
+    '0 - - - 30' '0 - - - 30' '1 2 - - 2000000000' '1 2 - - 2000000000' '2 1 2 - 1000000001' '2 1 2 - 1000000001'
+tells 'two bad words, both of which read as missing' $'accepted\naccepted\ncontradicted 0 2: 2000000000, then -2147483648\n' \
+    '1 2 - - 2000000000' '1 2 - - -2147483648'
+tells 'two wrapped words' $'accepted\naccepted\ncontradicted 0 2 1: 1000000001, then 1000000002\n' \
+    '2 2 1 - 1000000001' '2 2 1 - 1000000002'
+tells 'the word 1000000009, first' $'accepted\naccepted\naccepted\naccepted\n' \
+    '0 - - - 1000000009' '0 - - - 1000000009' '0 - - - 30' '0 - - - -'
+tells 'the word 1000000009, second' \
+    $'accepted\nanswer 30\naccepted\ncontradicted 0: 30, then 1000000009\nanswer -\naccepted\n' \
+    '0 - - - 30' '0 - - - 1000000009' '0 - - - 30'
+gives "a card's own word" 0 $'answer -\naccepted\nanswer 5\naccepted\ncontradicted 3: 5, then 6\nanswer -\n' \
+    "$bench" card 4 1 3 3 < <(for word in 5 6; do "$bench" frame make 0 3 0 - - - 3 $word; done)
+gives 'a different word in a frame that is refused' 1 \
+    $'answer -\naccepted\nanswer 30\nrefused 13 line 2 path 0: EXCHANGE is 1, ahead by 1: the current is 0\naccepted\n' \
+    "$bench" card 4 1 0 3 < <(frame 0 - - - 30; "$bench" frame make 1 0 0 - - - 3 31; frame 0 - - - 30)
+gives 'the frames that README shows, with a contradiction' 0 \
+    "$agree"$'accepted\ncontradicted 0 1: 10, then 20\nanswer -\n' "$bench" card 4 1 0 3 <host/tests/contradicting.frames
 
 # ---- all books
 
@@ -193,13 +242,16 @@ turns+=$'accepted\nanswer 0 -\naccepted\nanswer 2 -\naccepted\naccepted\nanswer 
 gives 'senders in turn' 0 "$turns" "$bench" card 4 1 all 3 <"$scratch/turns"
 says 'senders in turn' ''
 gives 'senders in turn, from a slow pipe, in little memory' 0 "$turns" small card 4 1 all 3 0 < <(slowly <"$scratch/turns")
+gives 'one sender contradicts itself, another does not' 0 \
+    $'accepted\nanswer 0 30\naccepted\nanswer 2 30\naccepted\ncontradicted 0: 30, then 31\nanswer 0 -\naccepted\n' \
+    "$bench" card 4 1 all 3 < <(frame_of 0 0 - 30; frame_of 2 0 - 30; frame_of 0 0 - 31; frame_of 2 0 - 30)
 gives 'frames one after the other, as the help shows' 0 $'accepted\nanswer 0 30\naccepted\nanswer 1 45\n' \
     bash -c "$("$bench" card --help | sed -n '/^  { bench/,/^      bench/p' | sed 's|bench |"$0" |g')" "$bench"
 
 # Among all books each is as it would be alone: words of every kind, on all paths of two rounds, in an order that goes through the senders.
 words=(30 -5 30 - 1000000001 30 -5 2000000000 30 7 30)
 for i in {0..99}; do
-    t=$((i % 5)) q1=$((i / 5 % 5)) q2=$((i / 7 % 5)) word=${words[i % 11]}
+    t=$((i % 5)) q1=$((i / 5 % 5)) q2=$((i / 7 % 5)) word=${words[i / 9 % 11]}
     case $((i % 3)) in
         0) "$bench" frame make 9 $t 0 - - - 4 "$word" ;;
         1) "$bench" frame make 9 $t 1 $q1 - - 4 "$word" ;;
@@ -208,9 +260,11 @@ for i in {0..99}; do
 done >"$scratch/mixed"
 told=$("$bench" card 5 2 all 4 9 <"$scratch/mixed")
 for t in {0..4}; do
-    alone=$(grep -i "^.\{14\}0$t" "$scratch/mixed" | "$bench" card 5 2 $t 4 9 | sed -n "2,\$s/^answer /answer $t /p")
-    match "sender $t has answers" "answer $t *"$'\n'* "$alone"
-    equal "the answers of sender $t among all" "$alone" "$(grep "^answer $t " <<<"$told")"
+    alone=$(grep -i "^.\{14\}0$t" "$scratch/mixed" | "$bench" card 5 2 $t 4 9 |
+        sed -n "2,\$s/^answer /answer $t /p; /^contradicted/p")
+    match "sender $t has answers" *"answer $t *"$'\n'* "$alone"
+    match "sender $t has contradictions" *"contradicted $t"* "$alone"
+    equal "the answers of sender $t among all" "$alone" "$(grep -e "^answer $t " -e "^contradicted $t[ :]" <<<"$told")"
 done
 
 # Every sender of ten has an opened book: its word alone is the answer, for the first card and for the last.

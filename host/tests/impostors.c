@@ -70,34 +70,84 @@ uint8_t __wrap_omh_word_for(size_t n, size_t m, size_t t, int32_t x, const uint8
     return refused;
 }
 
+static void keep_contradicted(int32_t *words, const int32_t before[OMH_SLOTS])
+{
+    for (size_t slot = 0; slot < OMH_SLOTS; slot++)
+        if (before[slot] == OMH_CONTRADICTED)
+            words[slot] = OMH_CONTRADICTED;
+}
+
 uint8_t __wrap_omh_fill(size_t n, size_t m, size_t t, int32_t x, const uint8_t *statuses, size_t statuses_len,
                         const int32_t *table, size_t table_len, size_t p,
                         int32_t *words, size_t words_len, int32_t *votes, size_t votes_len)
 {
+    int32_t before[OMH_SLOTS];
+    memcpy(before, words, sizeof before);
     uint8_t refused = __real_omh_fill(n, m, t, x, seen(statuses), statuses_len, table, table_len, p,
                                       words, words_len, votes, votes_len);
     if (is("filling touches a slot that is not live"))
         votes[1 + t] = OMH_E;
+    if (is("filling leaves contradicted words"))
+        keep_contradicted(words, before);
     return refused;
 }
 
 uint8_t __wrap_omh_open(size_t n, size_t m, size_t t, size_t p, int32_t *words, size_t words_len,
                         int32_t *votes, size_t votes_len)
 {
-    int32_t last = votes[OMH_SLOTS - 1];
+    int32_t last = votes[OMH_SLOTS - 1], before[OMH_SLOTS];
+    memcpy(before, words, sizeof before);
     uint8_t refused = __real_omh_open(n, m, t, p, words, words_len, votes, votes_len);
     if (is("opening leaves the last vote"))
         votes[OMH_SLOTS - 1] = last;
+    if (is("opening leaves contradicted words"))
+        keep_contradicted(words, before);
+    return refused;
+}
+
+/* Another rule for a second word: what its slot holds when it comes, and the word that comes. */
+static void second_word(int32_t *held, int32_t *word)
+{
+    if (*held == OMH_E)
+        return;
+    if (is("the last word wins"))
+        *held = OMH_E;
+    if (is("the first word wins"))
+        *word = *held;
+    if (is("a second word E is passed over") && *word == OMH_E)
+        *word = *held;
+    if (is("words are compared as they read") && omh_read_at(OMH_ROUNDS, *held) == omh_read_at(OMH_ROUNDS, *word))
+        *word = *held;
+    if (is("a contradicted slot takes the next word") && *held == OMH_CONTRADICTED)
+        *held = OMH_E;
+}
+
+/* The library's entering by that rule; after a refusal the slot is as it was. */
+static uint8_t enter_second(size_t n, size_t m, size_t t, size_t p, int32_t *words, size_t words_len,
+                            int32_t *votes, size_t votes_len, size_t slot, int32_t word)
+{
+    int32_t none = OMH_E, *held = slot < OMH_SLOTS ? &words[slot] : &none, stood = *held;
+    second_word(held, &word);
+    uint8_t refused = __real_omh_enter(n, m, t, p, words, words_len, votes, votes_len, slot, word);
+    if (refused != 0)
+        *held = stood;
     return refused;
 }
 
 uint8_t __wrap_omh_enter(size_t n, size_t m, size_t t, size_t p, int32_t *words, size_t words_len,
                          int32_t *votes, size_t votes_len, size_t slot, int32_t word)
 {
-    int32_t answer = votes[0];
-    uint8_t refused = __real_omh_enter(n, m, t, p, words, words_len, votes, votes_len, slot, word);
+    int32_t answer = votes[0], stood = slot < OMH_SLOTS ? words[slot] : OMH_E, before[OMH_SLOTS];
+    memcpy(before, votes, sizeof before);
+    uint8_t refused = enter_second(n, m, t, p, words, words_len, votes, votes_len, slot, word);
+    if (is("a slot that stays has its votes left") && refused == 0 && words[slot] == stood)
+        memcpy(votes, before, sizeof before);
+    if (is("a contradicted slot holds E") && refused == 0 && words[slot] == OMH_CONTRADICTED)
+        words[slot] = OMH_E;
     if (is("entering re-makes no answer"))
         votes[0] = answer;
+    if (is("a second word changes the slot above") && refused == 0 && slot > 0 && stood != OMH_E)
+        words[(slot - 1) / OMH_CARDS] = OMH_CONTRADICTED;
     if (is("a bad word is stored as E") && refused == 0 && word > OMH_E + OMH_ROUNDS)
         words[slot] = OMH_E;
     if (is("a refused entering changes a word that is never live") && refused != 0 && words_len == OMH_SLOTS)

@@ -3,7 +3,7 @@
 # A pattern for the whole output of a soak without failures.
 summary() { # SEED EXCHANGES
     printf 'seed %s\nexchanges         %12s\n' "$1" "$2"
-    printf '%-16s  *\n' 'within the bound' enterings refusals
+    printf '%-16s  *\n' 'within the bound' enterings contradictions refusals
     printf 'failures                     0\nstatus 0'
 }
 
@@ -13,11 +13,14 @@ soak() { # OPTION..
     echo "status $?"
 }
 
-got=$(soak --seed 1 --count 20000 --progress)
-match 'a soak' "$(summary 1 20000)" "$got"
-says 'the progress of a soak' '*20000 of 20000 exchanges'
+got=$(soak --seed 1 --count 10000 --progress)
+match 'a soak' "$(summary 1 10000)" "$got"
+says 'the progress of a soak' '*10000 of 10000 exchanges'
 [[ $got =~ within\ the\ bound\ +([0-9]+) ]] && within=${BASH_REMATCH[1]}
-match 'a soak has exchanges within the bound and others' yes "$( ((10000 < within && within < 20000)) && echo yes)"
+match 'a soak has exchanges within the bound and others' yes "$( ((5000 < within && within < 10000)) && echo yes)"
+[[ $got =~ enterings\ +([0-9]+).*contradictions\ +([0-9]+) ]] && enterings=${BASH_REMATCH[1]} contradictions=${BASH_REMATCH[2]}
+match 'a soak has contradictions, and more words that are none' yes \
+    "$( ((10000 < contradictions && contradictions < enterings / 2)) && echo yes)"
 
 first=$(soak --seed 2 --count 50)
 match 'a short soak' "$(summary 2 50)" "$first"
@@ -30,13 +33,13 @@ match 'a seed from the clock' "$(summary '*' '[ ]*10')" "$(soak --count 10)"
 # Two parts of a soak have what the whole has.
 counts() { # OPTION..
     soak "$@" | while read -r -a line; do
-        [[ ${line[0]} =~ ^(exchanges|within|enterings|refusals)$ ]] && echo "${line[-1]}"
+        [[ ${line[0]} =~ ^(exchanges|within|enterings|contradictions|refusals)$ ]] && echo "${line[-1]}"
     done
 }
 mapfile -t whole < <(counts --seed 2 --count 50)
 mapfile -t one < <(counts --seed 2 --count 20)
 mapfile -t two < <(counts --seed 2 --first 21 --count 30)
-for i in 0 1 2 3; do
+for i in 0 1 2 3 4; do
     equal 'a soak in two parts' "${whole[i]}" $((one[i] + two[i]))
 done
 

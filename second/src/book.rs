@@ -1,9 +1,13 @@
-//! Document 01, "The book": the words received and the votes held, in two lent lists.
+//! Document 01, "The book": the words received and the votes held, in two lent lists. What a
+//! second word on one path does is document 02's Q-2.
 
 use crate::paths::{live_path_at, live_paths, longer_paths, slot_of_path, Settings, SLOTS};
 use crate::vote::{is_read_alone, received, vote_on, vote_over};
 use crate::words::{read_at, E};
 use crate::Refusal;
+
+/// Stands at a slot whose path told different words. It is a bad word, so it reads as E.
+pub const CONTRADICTED: i32 = 1_000_000_009;
 
 pub fn open(settings: Settings, words: &mut [i32], votes: &mut [i32]) -> Result<(), Refusal> {
     check(settings, words, votes)?;
@@ -21,7 +25,7 @@ pub fn enter(
 ) -> Result<(), Refusal> {
     check(settings, words, votes)?;
     let path = live_path_at(settings, slot)?;
-    words[slot] = word;
+    words[slot] = left_by(words[slot], word);
     // A live path and each path above it have slots, so nothing is refused from here on.
     for level in (0..=path.len()).rev() {
         let above = &path[..level];
@@ -60,6 +64,16 @@ fn check_lists(words: &[i32], votes: &[i32]) -> Result<(), Refusal> {
         return Err(5);
     }
     Ok(())
+}
+
+/// What a slot holds once a word has come on its path. The two are compared unread, and E
+/// over another word is a different word too.
+fn left_by(held: i32, word: i32) -> i32 {
+    if held == E || held == word {
+        word
+    } else {
+        CONTRADICTED
+    }
 }
 
 /// The vote at a live path from its word and the held votes of the longer paths, which

@@ -1,9 +1,11 @@
 //! Domewhistle's second program: the rules of document 01, "Build scope and its precise
-//! rules", and of document 02's request Q-1, "Every card is sender in turn", written again
-//! from the documents alone, so that outcomes can be compared.
+//! rules", and of document 02's requests Q-1, "Every card is sender in turn", and Q-2, "Two
+//! different words on one path", written again from the documents alone, so that outcomes can
+//! be compared.
 //!
-//! There is one module for each part of document 01; `books` and `outcome` are Q-1's. A
-//! refusal is its number alone, as document 01's table "Refusal numbers" gives it.
+//! There is one module for each part of document 01; `books` and `outcome` are Q-1's, and Q-2
+//! is in `book`. A refusal is its number alone, as document 01's table "Refusal numbers" gives
+//! it.
 
 #![forbid(unsafe_code)]
 

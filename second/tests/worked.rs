@@ -1,9 +1,10 @@
-//! Document 01's section "Worked by hand" and the rules around it, and document 02's request
-//! Q-1, run case by case. The tables in `cases` are run by the package `linked` too, with
-//! both programs.
+//! Document 01's section "Worked by hand" and the rules around it, and document 02's requests
+//! run case by case. The tables in `cases` are run by the package `linked` too,
+//! with both programs.
 
 mod cases {
     pub mod books;
+    pub mod contradictions;
     pub mod exchanges;
     pub mod frames;
     pub mod given;
@@ -16,14 +17,16 @@ mod cases {
 }
 
 use cases::books::{hold_long_lists, Call};
+use cases::contradictions::{self, hold_contradictions, hold_left};
 use cases::exchanges::{hold_books, hold_exchanges};
 use cases::frames::{hold_ages, hold_reading, hold_writing};
+use cases::given::with;
 use cases::listings::{bytes_of, hold_listings, EXAMPLE, EXAMPLE_LISTING};
 use cases::outcomes::hold_outcomes;
 use cases::slots::{hold_live, hold_slots};
 use cases::votes::hold_votes;
 use cases::words::{hold_majorities, hold_words, WORDS};
-use second::book;
+use second::book::{self, CONTRADICTED};
 use second::books::{self, BOOKS};
 use second::exchange::{self, bound_holds, Exchange, PLACES};
 use second::frames::{self, age, age_class, next_exchange, AgeClass, Record};
@@ -52,7 +55,7 @@ impl Random {
 
     /// Few different words, so that majorities are found, and some of every kind.
     fn word(&mut self) -> i32 {
-        const WORDS: [i32; 16] = [
+        const WORDS: [i32; 17] = [
             5,
             5,
             5,
@@ -66,6 +69,7 @@ impl Random {
             E2,
             E3,
             1_000_000_004,
+            CONTRADICTED,
             -1_000_000_000,
             i32::MIN,
             i32::MAX,
@@ -264,18 +268,29 @@ fn answers_are_ordinary_or_missing() {
 
 // The book
 
+/// What the words accepted on one path leave, by Q-2 in closed form.
+fn left_by(accepted: &[i32]) -> i32 {
+    let told: Vec<i32> = accepted.iter().copied().skip_while(|&word| word == E).collect();
+    match told.iter().min() {
+        None => E,
+        least if least == told.iter().max() => told[0],
+        _ => 1_000_000_009,
+    }
+}
+
 /// Enters random words in random order and compares every vote after each entering.
 fn enter_and_compare(s: Settings, enterings: usize, random: &mut Random) {
     let (mut words, mut votes) = (random.words(SLOTS), random.words(SLOTS));
     book::open(s, &mut words, &mut votes).unwrap();
     assert!(words.iter().chain(&votes).all(|&word| word == E));
-    let mut expected_words = words.clone();
+    let (mut expected_words, mut accepted) = (words.clone(), vec![vec![]; SLOTS]);
     let mut order = live_slots(s);
     random.shuffle(&mut order);
     for entering in 0..enterings {
         let (slot, word) = (order[entering % order.len()], random.word());
         book::enter(s, &mut words, &mut votes, slot, word).unwrap();
-        expected_words[slot] = word;
+        accepted[slot].push(word);
+        expected_words[slot] = left_by(&accepted[slot]);
         assert_eq!(words, expected_words);
         let mut expected_votes = vec![E; SLOTS];
         book::refill(s, &words, &mut expected_votes).unwrap();
@@ -302,7 +317,7 @@ fn entering_keeps_the_votes_of_the_greatest_book() {
 
 #[test]
 fn held_votes_are_read_before_they_are_counted() {
-    let (mut words, mut votes) = (vec![7; SLOTS], vec![E2; SLOTS]);
+    let (mut words, mut votes) = (vec![E; SLOTS], vec![E2; SLOTS]);
     book::enter(FOUR, &mut words, &mut votes, 0, 10).unwrap();
     assert_eq!(votes[0], 10, "E2 reads as E at level 1");
     (votes[3], votes[4]) = (E1, E1);
@@ -316,8 +331,9 @@ fn held_votes_are_read_before_they_are_counted() {
 
 #[test]
 fn entering_stores_the_word_unread() {
-    let (mut words, mut votes) = (vec![E; SLOTS], vec![E; SLOTS]);
+    let (mut words, mut votes) = (vec![7; SLOTS], vec![7; SLOTS]);
     for word in [i32::MIN, i32::MAX, E3, E2] {
+        book::open(FOUR, &mut words, &mut votes).unwrap();
         book::enter(FOUR, &mut words, &mut votes, 4, word).unwrap();
         assert_eq!((words[4], votes[4]), (word, E));
     }
@@ -514,9 +530,9 @@ fn every_byte_damaged_in_turn() {
             let mut frame = FRAME;
             frame[place] = byte;
             let expected = outcome_of_damage(place, byte);
-            let (mut words, mut votes) = ([6; SLOTS], [8; SLOTS]);
+            let (mut words, mut votes) = ([E; SLOTS], [8; SLOTS]);
             let entered = frames::enter_frame(FOUR, &mut words, &mut votes, 0x0203, &frame);
-            let (mut same_words, mut same_votes) = ([6; SLOTS], [8; SLOTS]);
+            let (mut same_words, mut same_votes) = ([E; SLOTS], [8; SLOTS]);
             if let Ok(slot) = expected {
                 let word = i32::from_be_bytes([frame[13], frame[14], frame[15], frame[16]]);
                 book::enter(FOUR, &mut same_words, &mut same_votes, slot, word).unwrap();
@@ -720,6 +736,89 @@ fn the_bench_refuses_lists_of_another_length() {
     for (w, v) in [(0, 0), (1_110, SLOTS), (SLOTS, 1_112)] {
         let (mut words, mut votes) = (vec![6; w], vec![8; v]);
         assert_eq!(exchange::fill_book(&e, 1, &mut words, &mut votes), Err(5));
+    }
+}
+
+// Two different words on one path
+
+#[test]
+fn worked_contradictions() {
+    use contradictions::Call;
+    hold_contradictions(|s, call, [mut words, mut votes]| {
+        let (w, v) = (&mut words, &mut votes);
+        let outcome = match call {
+            Call::Open => book::open(s, w, v),
+            Call::Enter(slot, word) => book::enter(s, w, v, slot, word),
+            Call::EnterFrame(current, frame) => frames::enter_frame(s, w, v, current, &frame),
+            Call::Refill => book::refill(s, w, v),
+            Call::Fill(given) => with(given, |e| exchange::fill_book(e, s.p, w, v)),
+            Call::Write(slot, vote) => {
+                v[slot] = vote;
+                Ok(())
+            }
+        };
+        (outcome, [words, votes])
+    });
+}
+
+/// Random words on random paths, by slot and by frame, some of them refused. A path's last
+/// word comes again every other time.
+#[test]
+fn a_slot_holds_what_its_accepted_words_leave() {
+    hold_left(left_by);
+    let mut random = Random(22);
+    let mut left = [0; 4];
+    for s in all_settings(5) {
+        let (mut words, mut votes) = (random.words(SLOTS), random.words(SLOTS));
+        book::open(s, &mut words, &mut votes).unwrap();
+        let mut accepted = vec![vec![]; SLOTS];
+        for _ in 0..200 {
+            if random.below(30) == 0 {
+                book::open(s, &mut words, &mut votes).unwrap();
+                accepted.fill(vec![]);
+            }
+            let slot = [random.below(6), random.below(SLOTS)][random.below(2)];
+            let again = accepted[slot].last().filter(|_| random.below(2) == 0).copied();
+            let word = again.unwrap_or_else(|| random.word());
+            let before = accepted[slot].clone();
+            if enter_somehow(s, [&mut words, &mut votes], (slot, word), &mut random).is_ok() {
+                accepted[slot].push(word);
+                left[kind_of_word(&before, word)] += 1;
+            }
+            let expected: Vec<i32> = accepted.iter().map(|told| left_by(told)).collect();
+            assert!(words == expected, "{s:?} slot {slot}: {word} after {before:?}");
+        }
+    }
+    assert!(left.iter().all(|&times| times > 500), "{left:?}");
+}
+
+/// Enters a word by slot or by frame, at times by a frame of the exchange before.
+fn enter_somehow(
+    s: Settings,
+    [words, votes]: [&mut [i32]; 2],
+    (slot, word): (usize, i32),
+    random: &mut Random,
+) -> Result<(), u8> {
+    if random.below(2) == 0 {
+        return book::enter(s, words, votes, slot, word);
+    }
+    let path = path_at(slot).unwrap();
+    let mut relays = [255; 3];
+    relays.iter_mut().zip(&path).for_each(|(place, &relay)| *place = relay as u8);
+    let (sender, receiver, level) = (s.t as u8, s.p as u8, path.len() as u8);
+    let mut frame = [0; 17];
+    frames::write(&Record { exchange: 3, sender, level, relays, receiver, word }, &mut frame)?;
+    frames::enter_frame(s, words, votes, [3, 3, 3, 4][random.below(4)], &frame)
+}
+
+/// 0 where a path has told nothing but E, 1 where it tells the same word again, 2 where
+/// another one, 3 where it has told different words already.
+fn kind_of_word(before: &[i32], word: i32) -> usize {
+    match left_by(before) {
+        E => 0,
+        CONTRADICTED => 3,
+        told if told == word => 1,
+        _ => 2,
     }
 }
 

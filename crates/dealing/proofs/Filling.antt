@@ -67,12 +67,13 @@ module _ (s : Settings) (x : ℤ) (statuses : List ℕ) (words : List ℤ) (b : 
 
 -- ---- what it holds
 
+-- at a live slot the word dealt, whatever stood there; elsewhere what stood there
+pub filled-word : (R : Rule) (X : Exchange) (p : ℕ) (b : Book) (k : ℕ) → k < slots → at (filledFor R X p b .words) k ≡ cond (live (settingsFor X p) k) (dealt R X k p) (at (b .words) k)
+unfolding filledFor dealtOver
+filled-word R X p b k h = let e : 0 + k ≡ k = omega arith in at-table slots 0 _ k (pos 0) h ∙ ap (λ (j : ℕ). cond (live (settingsFor X p) j) (dealt R X j p) (at (b .words) j)) e
+
 -- a book filled for a card holds that card's answer, whatever it held before
 pub filled-held : (R : Rule) (X : Exchange) (p : ℕ) (b : Book) → held (filledFor R X p b) ≡ answerOf R X p
-unfolding filledFor
 filled-held R X p b =
-    refilled-agrees R (settingsFor X p) _ (b .votes) 0 (live-zero (settingsFor X p))
-    ∙ answer-from R X p _ (λ k t. at-dealt k (live-slot (settingsFor X p) k t) ∙ cond-yes (live (settingsFor X p) k) _ _ t)
-  where
-    at-dealt : (k : ℕ) → k < slots → at (dealtOver R X p (b .words)) k ≡ cond (live (settingsFor X p) k) (dealt R X k p) (at (b .words) k)
-    at-dealt k h = unfold dealtOver in (let e : 0 + k ≡ k = omega arith in at-table slots 0 _ k (pos 0) h ∙ ap (λ (j : ℕ). cond (live (settingsFor X p) j) (dealt R X j p) (at (b .words) j)) e)
+    unfold filledFor in refilled-agrees R (settingsFor X p) _ (b .votes) 0 (live-zero (settingsFor X p))
+    ∙ answer-from R X p _ (λ k t. filled-word R X p b k (live-slot (settingsFor X p) k t) ∙ cond-yes (live (settingsFor X p) k) _ _ t)

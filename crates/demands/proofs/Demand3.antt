@@ -10,6 +10,7 @@ use Rattle.ground.specs.Checks.{verdict}
 use Rattle.ground.specs.Answer.{value, Outcome, outcome, ofTold, ofDone}
 use Rattle.ground.specs.Fixes.{Allows}
 use Rattle.ground.specs.Lists.{at}
+use Rattle.words.specs.Word.{E}
 use Rattle.settings.specs.Settings.{settingsChecks}
 use Rattle.settings.specs.Asked.{settings}
 use Rattle.settings.specs.declared.Settings.{Settings}
@@ -17,8 +18,10 @@ use Rattle.paths.specs.Slots.{way, live}
 use Rattle.vote.specs.Vote.{ruleOf, vote}
 use Rattle.book.specs.Book.{Book, bookOf, Sized}
 use Rattle.book.specs.Asked.{openAsked, heldAsked}
-use Rattle.entering.specs.Run.{wordsLeft}
+use Rattle.entering.specs.Run.{Entry, leftAt, wordsLeft}
+use Rattle.entering.specs.Accepted.{acceptedAt, leaves}
 use Rattle.entering.specs.Asked.{enterAsked}
+use Rattle.entering.proofs.Holding.{left-agreed}
 use Rattle.entering.proofs.OnlyLive.{Alike, entering-yields}
 use Rattle.refilling.specs.Refilled.{refillAsked}
 use Rattle.arrivals.specs.Run.{Arrival, word, frame, entryOf, entriesOf, leftBy, openArrived}
@@ -88,10 +91,12 @@ c-held-tells κs a x e p = p
 
 -- settings that are not refused, kept; xs are words and frames in the order of their calls, refused ones and second words for one path among them
 pub record Demand3 (s : Settings) : Type 0 where
-  -- After `open`, on any book of the right length, and such a run, the held answer is the answer worked out afresh from what each path's accepted words leave, a path with none counting as missing;
+  -- After `open`, on any book of the right length, and such a run, the held answer is the answer worked out afresh from what each path's accepted words leave by the rule of document 02's Q-2, a path with none counting as missing;
   pub held : (b : Book) → Sized b → (xs : List Arrival) → heldAsked (openArrived s b xs) ≡ value (vote (ruleOf (s .rack)) s (wordsLeft s (entriesOf s xs)) 0)
   -- and so is every live held vote.
   pub held-votes : (b : Book) → Sized b → (xs : List Arrival) (k : ℕ) → T (live s k) → at (openArrived s b xs .votes) k ≡ vote (ruleOf (s .rack)) s (wordsLeft s (entriesOf s xs)) k
+  -- That rule, followed word by word, comes to this, over the words accepted on a path: the leading E left out, E where none is left, the word where all are the same, else 1,000,000,009.
+  pub by-rule : (es : List Entry) (k : ℕ) → leftAt s k es E ≡ leaves (acceptedAt s k es)
   -- An entering, of a word or a frame and into any book, alters one stored word at most,
   pub one-word : (b : Book) (x : Arrival) (j : ℕ) → j ≢ entryOf x .slot → at (leftBy s b x .words) j ≡ at (b .words) j
   -- and no held votes but those on the way from that path up to the sender.
@@ -106,6 +111,7 @@ pub demand-3 : (s : Settings) → verdict (settingsChecks s) ≡ 0 → Demand3 s
 demand-3 s good = record {
   held = λ b z xs. held-after-arrivals s good b z xs;
   held-votes = λ b z xs. votes-after-arrivals s good b z xs;
+  by-rule = λ es k. left-agreed s k es;
   one-word = λ b x j. one-word-left s b j x;
   on-the-way = λ b x j. on-the-way-left s b j x;
   refilled = refilled-afresh s;

@@ -8,5 +8,6 @@ pub mod Cards
 pub mod Demand2
 pub mod Runs
 pub mod Demand3
+pub mod Contradictions
 pub mod Books
 pub mod Outcome

@@ -1,10 +1,12 @@
 -- Demand 3, the laws: what one entering, a run of them and a refilling leave, words and frames mixed.
 use Prim.Native.Nat.{ℕ, zero, suc}
-use mathlib.Core.Path.{_≡_, refl}
+use mathlib.Core.Path.{_≡_, refl, sym, ap, _∙_}
 use mathlib.Core.Logic.{_≢_}
 use mathlib.Core.Bool.{Bool, true, false, cond}
-use mathlib.Core.List.{List·Memᴰ}
+use mathlib.Core.List.{List, [], _∷_, List·Memᴰ}
 use lib.Dec.{T}
+use lib.IntN.{ℤ}
+use lib.ListN.{length}
 use Rattle.ground.specs.Checks.{verdict}
 use Rattle.ground.specs.Answer.{value, after, outcomeBy}
 use Rattle.ground.specs.Lists.{at}
@@ -13,17 +15,21 @@ use Rattle.settings.specs.Settings.{settingsChecks}
 use Rattle.settings.specs.declared.Settings.{Settings}
 use Rattle.paths.specs.Slots.{way, live}
 use Rattle.vote.specs.Vote.{ruleOf, vote}
-use Rattle.book.specs.Book.{Book, Sized}
+use Rattle.book.specs.Book.{Book, halves, Sized}
 use Rattle.book.specs.Asked.{bookChecks}
-use Rattle.entering.specs.Entered.{entered}
+use Rattle.entering.specs.Entered.{contradicted, entered}
 use Rattle.entering.specs.Run.{Entry, step}
-use Rattle.entering.proofs.Entering.{entered-one-word, entered-on-the-way}
+use Rattle.entering.proofs.Entering.{entered-one-word, entered-stays, entered-on-the-way}
 use Rattle.entering.proofs.OnlyLive.{Alike, entered-alike}
 use Rattle.refilling.specs.Refilled.{refilled, refillAsked}
 use Rattle.refilling.proofs.Refilled.{refilled-agrees}
 use Rattle.arrivals.specs.Entry.{frameAsked}
-use Rattle.arrivals.specs.Run.{Arrival, word, frame, taken, entryOf, leftBy}
+use Rattle.arrivals.specs.Run.{Arrival, word, frame, taken, entryOf, leftBy, arrived}
 use Rattle.arrivals.proofs.Runs.{call-steps}
+use Rattle.books.specs.Books.{booksWords, bookFrom}
+use Rattle.books.specs.Run.{enters, refills, Mixed, own, again, other, called}
+use Rattle.books.proofs.Parts.{good-has}
+use Rattle.books.proofs.Runs.{other-part, long-kept, own-book}
 
 -- ---- one entering, whatever the settings and the lists
 
@@ -43,6 +49,33 @@ module _ (s : Settings) (b : Book) (j : ℕ) where
   unfolding outcomeBy frameAsked
   on-the-way-left (word e) off = by-after (λ c. at (c .votes) j ≡ at (b .votes) j) _ b _ refl (entered-on-the-way (ruleOf (s .rack)) s b (e .slot) (e .word) j off)
   on-the-way-left (frame current bytes) off = by-after (λ c. at (c .votes) j ≡ at (b .votes) j) _ b _ refl (entered-on-the-way (ruleOf (s .rack)) s b _ _ j off)
+
+  -- a contradicted slot stays so
+  pub stays-left : (x : Arrival) → at (b .words) j ≡ contradicted → at (leftBy s b x .words) j ≡ contradicted
+  unfolding outcomeBy frameAsked
+  stays-left (word e) h = by-after (λ c. at (c .words) j ≡ contradicted) _ b _ h (entered-stays (ruleOf (s .rack)) s b (e .slot) (e .word) j h)
+  stays-left (frame current bytes) h = by-after (λ c. at (c .words) j ≡ contradicted) _ b _ h (entered-stays (ruleOf (s .rack)) s b _ _ j h)
+
+-- ---- a contradicted slot, through a run
+
+pub stays-arrived : (s : Settings) (xs : List Arrival) (b : Book) (j : ℕ) → at (b .words) j ≡ contradicted → at (arrived s b xs .words) j ≡ contradicted
+unfolding arrived
+stays-arrived s [] b j h = h
+stays-arrived s (x ∷ xs) b j h = stays-arrived s xs (leftBy s b x) j (stays-left s b j x h)
+
+-- and in the long list
+pub stays-called : (s : Settings) → verdict (settingsChecks s) ≡ 0 → (xs : List (Mixed s)) (l : List ℤ) → length l ≡ booksWords → (j : ℕ) → at (bookFrom (s .t) l .words) j ≡ contradicted → at (bookFrom (s .t) (called s l xs) .words) j ≡ contradicted
+unfolding called outcomeBy
+stays-called s good [] l long j h = h
+stays-called s good (own x ∷ xs) l long j h =
+    stays-called s good xs _ (long-kept s l (enters x) ∙ long) j
+    (ap (λ (b : Book). at (b .words) j) (own-book s l (good-has s l good long) (enters x)) ∙ stays-left s (bookFrom (s .t) l) j x h)
+stays-called s good (again ∷ xs) l long j h =
+    stays-called s good xs _ (long-kept s l refills ∙ long) j
+    (ap (λ (b : Book). at (b .words) j) (own-book s l (good-has s l good long) refills) ∙ by-after (λ c. at (c .words) j ≡ contradicted) _ (bookFrom (s .t) l) _ h h)
+stays-called s good (other o n a ∷ xs) l long j h =
+    stays-called s good xs _ (long-kept o l a ∙ long) j
+    (ap (λ (p : List ℤ). at (halves p .words) j) (other-part o l a (s .t) (λ q. n (sym q))) ∙ h)
 
 -- ---- slots that are not live
 

@@ -11,6 +11,7 @@ use Rattle.paths.specs.Slots.{slotOf, level, relaysBy, noneOf, different, mayRe
 use Rattle.paths.specs.Asked.{used, slotAsked, aboveAsked}
 use Rattle.text.specs.Decimal.{digitsOf, decimalOf}
 use Rattle.vote.specs.Vote.{voteFrom, voteIn, vote}
+use Rattle.entering.specs.Accepted.{afterE, allAre, agreed, leaves}
 use Rattle.ages.specs.Ages.{ageOf, classOf}
 use Rattle.exchange.specs.Exchange.{sent, dealtAt, received, answerOf}
 use Rattle.demands.specs.Worked.{sameText, worked, shown, allRight}
@@ -21,5 +22,5 @@ table-is-right = refl
 
 -- and of the further cases
 pub further-is-right : allRight shown ≡ true
-unfolding shown allRight same sameText slotOf level used all slotAsked aboveAsked verdict answer digitsOf decimalOf
+unfolding shown allRight same sameText slotOf level used all slotAsked aboveAsked verdict answer digitsOf decimalOf leaves afterE allAre agreed
 further-is-right = refl

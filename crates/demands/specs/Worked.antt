@@ -10,6 +10,7 @@ use Rattle.words.specs.Rule.{omh, majorityBy}
 use Rattle.text.specs.Decimal.{decimalOf}
 use Rattle.paths.specs.Slots.{slotOf, above, level}
 use Rattle.paths.specs.Asked.{slotAsked, aboveAsked}
+use Rattle.entering.specs.Accepted.{leaves}
 use Rattle.ages.specs.Ages.{ageOf, classOf, classNumber}
 use Rattle.omh.specs.Numbers.{numberOf}
 use Rattle.exchange.specs.Exchange.{Status, good, arbitrary, manifest, Exchange, answerOf}
@@ -84,7 +85,7 @@ worked =
     ++ threeAnswer (fourCards (pos 10) (pos 20) (pos 30)) E
     ++ threeAnswer (fourCards (pos 10) (pos 10) (pos 30)) (pos 10)
 
--- further cases: slots of paths and slots above with their refusals, levels, and texts of words that no listing prints
+-- further cases: slots of paths and slots above with their refusals, levels, texts of words that no listing prints, and what a path's accepted words leave
 abbrev text : ℤ → List ℕ → Case
 text w digits = number (cond (sameText (decimalOf w) digits) 1 0) 1
 
@@ -115,7 +116,17 @@ shown =
     ∷ text (negℤ (pos 1000000000)) (45 ∷ 49 ∷ 48 ∷ 48 ∷ 48 ∷ 48 ∷ 48 ∷ 48 ∷ 48 ∷ 48 ∷ 48 ∷ [])
     ∷ text (missing 1) (49 ∷ 48 ∷ 48 ∷ 48 ∷ 48 ∷ 48 ∷ 48 ∷ 48 ∷ 48 ∷ 49 ∷ [])
     ∷ text (pos 2147483647) (50 ∷ 49 ∷ 52 ∷ 55 ∷ 52 ∷ 56 ∷ 51 ∷ 54 ∷ 52 ∷ 55 ∷ [])
-    ∷ []
+    ∷ case (leaves (E ∷ pos 5 ∷ [])) (pos 5)
+    ∷ case (leaves (pos 5 ∷ pos 5 ∷ [])) (pos 5)
+    ∷ case (leaves (E ∷ E ∷ [])) E
+    ∷ map (λ (ws : List ℤ). case (leaves ws) (pos 1000000009))
+    ((pos 5 ∷ pos 7 ∷ [])
+    ∷ (pos 5 ∷ E ∷ [])
+    ∷ (pos 5 ∷ pos 7 ∷ pos 5 ∷ [])
+    ∷ (pos 2000000000 ∷ negℤ (pos 2000000000) ∷ [])
+    ∷ (pos 1000000009 ∷ [])
+    ∷ (pos 1000000009 ∷ pos 5 ∷ [])
+    ∷ [])
 
 -- every row is right
 unfoldable pub allRight : List Case → Bool

@@ -7,7 +7,6 @@ use lib.IntN.{ℤ, pos}
 use lib.ListN.{length, set, take, drop, length-set}
 use lib.Seq.{take-set-lt, drop-set-lt, getD-take}
 use Rattle.ground.specs.Checks.{check, verdict}
-use Rattle.ground.specs.Lists.{at}
 use Rattle.ground.proofs.Verdicts.{joined}
 use Rattle.settings.specs.Settings.{slots}
 use Rattle.settings.specs.declared.Settings.{Settings}
@@ -39,25 +38,28 @@ module _ (s : Settings) (b : Book) (k : ℕ) {first told : ℕ} {members : List 
 
 -- ---- the word stored, and the votes re-made on the way up
 
-module _ (s : Settings) (k : ℕ) (w : ℤ) {word : ℤ} where
-  pub entered-both : (ws vs : List ℤ) {way-words after : List ℤ} → word ≡ holds (at ws k) w → way-words ≡ wayWords (set ws k word) k → RemadeUp s k way-words vs after → bookOf (set ws k word) after ≡ entered (ruleOf (s .rack)) s (bookOf ws vs) k w
-  unfolding entered stored
-  entered-both ws vs e f up =
-      let words = ap (set ws k) e in
-      ap₂ bookOf words (up (set ws k word) f ∙ ap (λ (l : List ℤ). remadeAlong (ruleOf (s .rack)) s l (way k) vs) words)
+pub length-stored : (l : List ℤ) (k : ℕ) (w : ℤ) → length (stored l k w) ≡ length l
+unfolding stored
+length-stored l k w = length-set l k _
+
+module _ (s : Settings) (k : ℕ) (w : ℤ) where
+  pub entered-both : (ws vs : List ℤ) {ws′ way-words after : List ℤ} → ws′ ≡ stored ws k w → way-words ≡ wayWords ws′ k → RemadeUp s k way-words vs after → bookOf ws′ after ≡ entered (ruleOf (s .rack)) s (bookOf ws vs) k w
+  unfolding entered
+  entered-both ws vs {ws′} e f up = ap₂ bookOf e (up ws′ f ∙ ap (λ (l : List ℤ). remadeAlong (ruleOf (s .rack)) s l (way k) vs) e)
 
   -- in one list the votes alone are lent to be written, and come back in their place
-  module _ (l : List ℤ) (long : length l ≡ 2222) (slot : k < slots) where
-    pub entered-part : {way-words after : List ℤ} (n : ℕ) → word ≡ holds (at l k) w → way-words ≡ wayWords (set l k word) k → RemadeUp s k way-words (take n (drop slots (set l k word))) after → n ≡ slots → halves (take slots (set l k word) ++ (after ++ drop n (drop slots (set l k word)))) ≡ entered (ruleOf (s .rack)) s (halves l) k w
-    entered-part {after = after} n e f up z =
-        votes-back (set l k word) n whole z after
-        ∙ ap (λ (r : List ℤ). bookOf r after) words
-        ∙ entered-both (take slots l) (drop slots l) (e ∙ ap (λ (x : ℤ). holds x w) (sym (getD-take slots l k (pos 0) slot)))
-        (f ∙ sym (way-front slots (set l k word) k slot) ∙ ap (λ (r : List ℤ). wayWords r k) words)
-        (λ all g. up all g ∙ ap (remadeAlong (ruleOf (s .rack)) s all (way k)) (votes-lent (set l k word) n whole z ∙ drop-set-lt slots l k word slot))
-      where
-        whole : length (set l k word) ≡ 2222
-        whole = length-set l k word ∙ long
+  module _ (l : List ℤ) (slot : k < slots) {l′ : List ℤ} (e : l′ ≡ stored l k w) where
+    -- the words are those of the first half with the word stored, and the votes are as they were
+    front : take slots l′ ≡ stored (take slots l) k w
+    unfolding stored
+    front = ap (take slots) e ∙ take-set-lt slots l k _ slot ∙ ap (λ (x : ℤ). set (take slots l) k (holds x w)) (sym (getD-take slots l k (pos 0) slot))
 
-        words : take slots (set l k word) ≡ set (take slots l) k word
-        words = take-set-lt slots l k word slot
+    votes-kept : drop slots l′ ≡ drop slots l
+    unfolding stored
+    votes-kept = ap (drop slots) e ∙ drop-set-lt slots l k _ slot
+
+    pub entered-part : {way-words after : List ℤ} (n : ℕ) → length l′ ≡ 2222 → way-words ≡ wayWords l′ k → RemadeUp s k way-words (take n (drop slots l′)) after → n ≡ slots → halves (take slots l′ ++ (after ++ drop n (drop slots l′))) ≡ entered (ruleOf (s .rack)) s (halves l) k w
+    entered-part {after = after} n whole f up z =
+        votes-back l′ n whole z after
+        ∙ entered-both (take slots l) (drop slots l) front (f ∙ sym (way-front slots l′ k slot))
+        (λ all g. up all g ∙ ap (remadeAlong (ruleOf (s .rack)) s all (way k)) (votes-lent l′ n whole z ∙ votes-kept))

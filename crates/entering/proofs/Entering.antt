@@ -1,12 +1,13 @@
 -- Laws of an entering: what it alters, and that every live held vote stays the vote from the words.
 use Prim.Native.Nat.{ℕ, suc}
-use mathlib.Core.Path.{_≡_, sym, _∙_}
+use mathlib.Core.Path.{_≡_, sym, ap, _∙_}
 use mathlib.Core.Logic.{_≢_}
-use mathlib.Core.List.{List·Memᴰ}
+use mathlib.Core.List.{List, List·Memᴰ}
+use native.Mathlib.Decide.{ℕ-discrete}
 use lib.Dec.{T}
 use lib.IntN.{ℤ, pos}
-use lib.ListN.{length-set}
-use lib.Seq.{getD-set-other}
+use lib.ListN.{set, length-set}
+use lib.Seq.{getD-set-other, set-getD}
 use Rattle.ground.specs.Lists.{at}
 use Rattle.words.specs.Rule.{Rule}
 use Rattle.words.proofs.Lawful.{Lawful}
@@ -15,8 +16,9 @@ use Rattle.paths.specs.Slots.{way, live}
 use Rattle.paths.proofs.Live.{live-slot}
 use Rattle.vote.proofs.Votes.{vote-local}
 use Rattle.book.specs.Book.{Book, Sized}
-use Rattle.entering.specs.Entered.{stored, entered}
+use Rattle.entering.specs.Entered.{contradicted, holds, stored, entered}
 use Rattle.entering.specs.Run.{Agrees}
+use Rattle.entering.proofs.Holding.{stays}
 use Rattle.entering.proofs.Along.{way-falls, length-along, along-other, along-right}
 
 module _ (R : Rule) (s : Settings) (b : Book) (k : ℕ) (w : ℤ) where
@@ -24,6 +26,17 @@ module _ (R : Rule) (s : Settings) (b : Book) (k : ℕ) (w : ℤ) where
   pub entered-one-word : (j : ℕ) → j ≢ k → at (entered R s b k w .words) j ≡ at (b .words) j
   unfolding entered stored
   entered-one-word j n = getD-set-other (b .words) k j _ (pos 0) n
+
+  -- a contradicted slot stays so
+  pub entered-stays : (j : ℕ) → at (b .words) j ≡ contradicted → at (entered R s b k w .words) j ≡ contradicted
+  unfolding entered stored
+  entered-stays j e = go (ℕ-discrete j k)
+    where
+      go : Dec (j ≡ k) → at (set (b .words) k (holds (at (b .words) k) w)) j ≡ contradicted
+      go (yes q) =
+          let here : at (b .words) k ≡ contradicted = ap (at (b .words)) (sym q) ∙ e in
+          ap (λ (l : List ℤ). at l j) (ap (set (b .words) k) (ap (λ (v : ℤ). holds v w) here ∙ stays w ∙ sym here) ∙ set-getD (b .words) k (pos 0)) ∙ e
+      go (no n) = getD-set-other (b .words) k j _ (pos 0) n ∙ e
 
   -- and no held vote but those on the way from its slot up to slot 0
   pub entered-on-the-way : (j : ℕ) → (List·Memᴰ j (way k) → ⊥) → at (entered R s b k w .votes) j ≡ at (b .votes) j

@@ -29,7 +29,7 @@ use Rattle.entering.proofs.Entering.{entered-sized, entered-agrees}
 -- ---- a book just opened
 
 -- every word is missing
-opened-word : (R : Rule) (k : ℕ) → k < slots → at (opened R .words) k ≡ E
+pub opened-word : (R : Rule) (k : ℕ) → k < slots → at (opened R .words) k ≡ E
 unfolding opened
 opened-word R k h = getD-replicate slots k E (pos 0) h
 

@@ -1,3 +1,4 @@
+pub mod Holding
 pub mod Leaf
 pub mod Steps
 mod Admitted
@@ -5,7 +6,6 @@ pub mod Along
 pub mod Entering
 pub mod OnlyLive
 pub mod FromOpening
-pub mod LastWord
 pub mod Demand3
 pub mod Calls
 pub mod Fixed

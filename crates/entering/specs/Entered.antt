@@ -1,18 +1,25 @@
--- Document 01, 'The book': entering a word, over any rule.
+-- Document 01, 'The book': entering a word, over any rule; document 02, Q-2: two different words on one path.
 use Prim.Native.Nat.{ℕ}
+use mathlib.Core.Bool.{cond}
 use mathlib.Core.List.{List, [], _∷_}
-use lib.IntN.{ℤ}
+use lib.IntN.{ℤ, pos}
 use lib.ListN.{set}
 use Rattle.ground.specs.Lists.{at}
+use Rattle.words.specs.Word.{E}
+use Rattle.words.specs.Majority.{same}
 use Rattle.words.specs.Rule.{Rule}
 use Rattle.settings.specs.declared.Settings.{Settings}
 use Rattle.paths.specs.Slots.{level, way}
 use Rattle.vote.specs.Vote.{voteFrom}
 use Rattle.book.specs.Book.{Book}
 
--- what a slot holds after a word: the last word wins
+-- what stands where two different words came
+abbrev pub contradicted : ℤ
+contradicted = pos 1000000009
+
+-- what a slot holds after a word: holding E it takes any word; the same word again leaves it; a different word contradicts. Words are compared unread.
 unfoldable pub holds : ℤ → ℤ → ℤ
-holds old new = new
+holds old new = cond (same old E) new (cond (same old new) old contradicted)
 
 unfoldable pub stored : List ℤ → ℕ → ℤ → List ℤ
 stored words k word = set words k (holds (at words k) word)

@@ -1,4 +1,4 @@
-// Document 01, 'The book': a word entered at a slot, and the votes made again from there up to slot 0.
+// Document 01, 'The book': a word entered at a slot, and the votes made again from there up to slot 0; document 02, Q-2: what stands where two different words came.
 use ground::Done;
 use ground::refusal;
 use settings::Settings;
@@ -14,9 +14,12 @@ ghost use Rattle.settings.specs.Settings.{mostCards, slots};
 ghost use Rattle.paths.specs.Slots.{mayRelay};
 ghost use Rattle.vote.specs.Vote.{decided};
 ghost use Rattle.book.specs.Book.{bookOf, halves};
-ghost use Rattle.entering.specs.Entered.{holds};
+ghost use Rattle.entering.specs.Entered.{holds, stored};
 ghost use Rattle.entering.specs.Asked.{enterAsked};
 ghost use Rattle.entering.specs.Remaking.{heldVotes, memberRemade, wayWords, Remakes, Enters, RemadeUp, Admits};
+
+// What stands where two different words came: a bad word, which reads as E.
+pub const CONTRADICTED: i32 = 1_000_000_009;
 
 // The most slots on a way up: one for each round of relay, and the sender's.
 const LEVELS: usize = Settings::MAX_ROUNDS + 1;
@@ -65,17 +68,6 @@ fn remake(
     over_held(votes, members, own, d + 1, k)
 }
 
-// A copy of the words at a slot and at the three above it, above slot 0 its own again: all words that the votes on the way up are made from.
-fn way_words(words: &[i32], slot: usize) -> [i32; LEVELS]
-    requires { ⌜ slot < length (now words) ⌝ }
-    ensures { λ r. ⌜ r ≡ wayWords (now (words .entry)) slot ⌝ }
-{
-    let second = paths::above(slot);
-    let third = paths::above(second);
-    let fourth = paths::above(third);
-    [words[slot], words[second], words[third], words[fourth]]
-}
-
 // Re-makes the votes at a live slot and at each slot above it, slot 0 last, from the words there; `members` are the cards that may lengthen its path. On each step up the last relay may relay again, and a round is left.
 fn walk_up(
     s: Settings,
@@ -104,11 +96,30 @@ fn walk_up(
     }
 }
 
-// What a slot holds after a word.
-fn held_after(_old: i32, new: i32) -> i32
-    ensures { λ r. ⌜ r ≡ holds «_old» new ⌝ }
+// What a slot holds after a word: holding E it takes any word, the same word leaves it, and a different one contradicts, though both may read as E.
+fn held_after(old: i32, new: i32) -> i32
+    ensures { λ r. ⌜ r ≡ holds old new ⌝ }
 {
-    new
+    if old == E {
+        return new;
+    }
+    if old == new {
+        return new;
+    }
+    CONTRADICTED
+}
+
+// Stores a word at a slot. Yields a copy of the words there and at the three slots above it, above slot 0 its own again: all that the votes on the way up are made from.
+fn store(words: &mut [i32], slot: usize, word: i32) -> [i32; LEVELS]
+    requires { ⌜ slot < length (now words) ⌝ }
+    ensures { λ r. ⌜ (now (words .exit) ≡ stored (now (words .entry)) slot word) × (r ≡ wayWords (now (words .exit)) slot) ⌝ }
+{
+    let second = paths::above(slot);
+    let third = paths::above(second);
+    let fourth = paths::above(third);
+    let first = held_after(words[slot], word);
+    words[slot] = first;
+    [first, words[second], words[third], words[fourth]]
 }
 
 // The refusal number of an entering, given that of its book; 0 for none, and then `members`, the cards that may relay, are those that may lengthen the slot's path.
@@ -134,8 +145,7 @@ pub fn enter(s: Settings, words: &mut [i32], votes: &mut [i32], slot: usize, wor
     if no != 0 {
         return Done::Refused(no);
     }
-    words[slot] = held_after(words[slot], word);
-    let on_way = way_words(words, slot);
+    let on_way = store(words, slot, word);
     walk_up(s, &on_way, votes, &mut members, slot);
     Done::Done
 }
@@ -149,8 +159,7 @@ pub fn enter_part(s: Settings, part: &mut [i32], slot: usize, word: i32) -> Done
     if no != 0 {
         return Done::Refused(no);
     }
-    part[slot] = held_after(part[slot], word);
-    let on_way = way_words(part, slot);
+    let on_way = store(part, slot, word);
     walk_up(s, &on_way, &mut part[Settings::SLOTS..], &mut members, slot);
     Done::Done
 }

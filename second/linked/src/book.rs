@@ -1,9 +1,12 @@
 //! Document 01, "The book": one book kept by both programs, compared after each call.
 
 use crate::compare::{compare, number_of};
+use crate::contradictions::Met;
 use crate::ffi;
+use crate::frames::told;
 use crate::lent::Lent;
 use second::paths::Settings;
+use second::words::E;
 use second::{book, frames, Refusal};
 use std::fmt::Arguments;
 
@@ -26,12 +29,14 @@ impl Book {
         )
     }
 
-    pub fn enter(&mut self, settings: Settings, slot: usize, word: i32) -> Result<(), Refusal> {
-        self.call(
+    pub fn enter(&mut self, settings: Settings, slot: usize, word: i32) -> Result<Met, Refusal> {
+        let held = self.held(slot);
+        let outcome = self.call(
             format_args!("enter {settings:x?} slot {slot:x} word {word:x}"),
             |words, votes| ffi::enter(settings, words, votes, slot, word),
             |words, votes| book::enter(settings, words, votes, slot, word),
-        )
+        );
+        outcome.map(|()| Met::of(held, word))
     }
 
     pub fn refill(&mut self, settings: Settings) -> Result<(), Refusal> {
@@ -47,7 +52,9 @@ impl Book {
         settings: Settings,
         current: u16,
         frame: &[u8],
-    ) -> Result<(), Refusal> {
+    ) -> Result<Met, Refusal> {
+        let (slot, word) = told(frame);
+        let held = self.held(slot);
         let lent = Lent::new(frame.to_vec());
         let call = format_args!("enter_frame {settings:x?} current {current:x} {frame:02x?}");
         let outcome = self.call(
@@ -56,7 +63,7 @@ impl Book {
             |words, votes| frames::enter_frame(settings, words, votes, current, lent.second()),
         );
         lent.compare("frame", call);
-        outcome
+        outcome.map(|()| Met::of(held, word))
     }
 
     /// The held answer; `before` is what the lent place holds before the call.
@@ -73,6 +80,11 @@ impl Book {
     /// The words received, as both programs have them.
     pub fn words(&self) -> &[i32] {
         self.words.second()
+    }
+
+    /// The word at a slot; E for a number that is none.
+    pub fn held(&self, slot: usize) -> i32 {
+        self.words().get(slot).copied().unwrap_or(E)
     }
 
     /// The votes held, likewise.

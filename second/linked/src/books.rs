@@ -2,9 +2,12 @@
 //! and compared after each call.
 
 use crate::book::held_answer;
+use crate::contradictions::Met;
 use crate::ffi;
+use crate::frames::told;
 use crate::lent::Lent;
 use second::paths::Settings;
+use second::words::E;
 use second::{books, Refusal};
 use std::fmt::Arguments;
 use std::ops::Range;
@@ -35,12 +38,14 @@ impl Books {
         )
     }
 
-    pub fn enter(&mut self, settings: Settings, slot: usize, word: i32) -> Result<(), Refusal> {
-        self.call(
+    pub fn enter(&mut self, settings: Settings, slot: usize, word: i32) -> Result<Met, Refusal> {
+        let held = self.held(settings.t, slot);
+        let outcome = self.call(
             (settings, format_args!("books_enter {settings:x?} slot {slot:x} word {word:x}")),
             |list| ffi::books_enter(settings, list, slot, word),
             |list| books::enter(settings, list, slot, word),
-        )
+        );
+        outcome.map(|()| Met::of(held, word))
     }
 
     pub fn refill(&mut self, settings: Settings) -> Result<(), Refusal> {
@@ -56,7 +61,9 @@ impl Books {
         settings: Settings,
         current: u16,
         frame: &[u8],
-    ) -> Result<(), Refusal> {
+    ) -> Result<Met, Refusal> {
+        let (slot, word) = told(frame);
+        let held = self.held(settings.t, slot);
         let lent = Lent::new(frame.to_vec());
         let call = format_args!("books_enter_frame {settings:x?} current {current:x} {frame:02x?}");
         let outcome = self.call(
@@ -65,7 +72,7 @@ impl Books {
             |list| books::enter_frame(settings, list, current, lent.second()),
         );
         lent.compare("frame", call);
-        outcome
+        outcome.map(|()| Met::of(held, word))
     }
 
     /// The held answer of a sender's two lists; `before` is what the lent place holds before
@@ -76,6 +83,16 @@ impl Books {
             [words, votes]
         });
         held_answer(lists[0], lists[1], before)
+    }
+
+    /// A sender's words; none for a number that is no card, or in a list that is too short.
+    pub fn words(&self, t: usize) -> &[i32] {
+        self.list().get(part(t)).map_or(&[], |part| &part[..HALF])
+    }
+
+    /// The word at a sender's slot; E where there is none.
+    pub fn held(&self, t: usize, slot: usize) -> i32 {
+        self.words(t).get(slot).copied().unwrap_or(E)
     }
 
     /// The list, as both programs have it.

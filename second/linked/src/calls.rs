@@ -1,8 +1,9 @@
 //! The calls of host/omh.h with the refusals that each can give, and a table of the
 //! outcomes that came.
 
+use crate::contradictions::Met;
 use crate::runs::Outcomes;
-use crate::tally::Tally;
+use crate::tally::{Enterings, Tally};
 use std::fmt::Write;
 
 /// The outcomes of every call. Reading, wrapping and unwrapping one word is one input.
@@ -58,19 +59,19 @@ impl Calls {
             row("is_live", SETTINGS, &self.is_live),
             row("vote_at", &[1, 2, 3, 4, 5, 8], &self.vote_at),
             row("open", SETTINGS_AND_LISTS, &self.book.open),
-            row("enter", &[1, 2, 3, 4, 5, 8], &self.book.enter),
+            row("enter", &[1, 2, 3, 4, 5, 8], &self.book.enter.outcomes),
             row("refill", SETTINGS_AND_LISTS, &self.book.refill),
             row("held_answer", &[5], &self.book.held_answer),
             row("books_open", SETTINGS_AND_LISTS, &self.books.open),
-            row("books_enter", &[1, 2, 3, 4, 5, 8], &self.books.enter),
+            row("books_enter", &[1, 2, 3, 4, 5, 8], &self.books.enter.outcomes),
             row("books_refill", SETTINGS_AND_LISTS, &self.books.refill),
             row("books, held", &[], &self.books.held_answer),
             row("next_exchange", &[], &self.next_exchange),
             row("age, class", &[12, 13], &self.age),
             row("read_frame", &[9, 10, 11, 14], &self.read_frame),
             row("write_frame", &[5, 14], &self.write_frame),
-            row("enter_frame", ENTERING_A_FRAME, &self.book.enter_frame),
-            row("books_enter_frame", ENTERING_A_FRAME, &self.books.enter_frame),
+            row("enter_frame", ENTERING_A_FRAME, &self.book.enter_frame.outcomes),
+            row("books_enter_frame", ENTERING_A_FRAME, &self.books.enter_frame.outcomes),
             row("word_for", &[1, 2, 3, 4, 5, 6, 7, 8], &self.word_for),
             row("answer_for", FILLING, &self.answer_for),
             row("all_answers", &[1, 2, 3, 5, 6, 7], &self.all_answers),
@@ -79,6 +80,16 @@ impl Calls {
             row("outcome_start", &[5], &self.outcome_start),
             row("outcome_set", &[1, 2, 3, 5, 6, 7], &self.outcome_set),
             row("list", &[1, 2, 3, 6, 7, 9, 10, 11, 16], &self.list),
+        ]
+    }
+
+    /// The calls that enter a word.
+    fn enterings(&self) -> [(&'static str, &Enterings); 4] {
+        [
+            ("enter", &self.book.enter),
+            ("books_enter", &self.books.enter),
+            ("enter_frame", &self.book.enter_frame),
+            ("books_enter_frame", &self.books.enter_frame),
         ]
     }
 
@@ -100,6 +111,16 @@ impl Calls {
         })
     }
 
+    /// Each thing that an entered word can meet at its slot, and in a call none did.
+    pub fn unmet(&self) -> Vec<String> {
+        let mut found = Vec::new();
+        for (call, enterings) in self.enterings() {
+            let unmet = Met::ALL.iter().filter(|&&(met, _)| enterings.times(met) == 0);
+            found.extend(unmet.map(|(_, name)| format!("{call}: {name}")));
+        }
+        found
+    }
+
     fn refusals_where(&self, chosen: impl Fn(&Row, u8) -> bool) -> Vec<String> {
         let mut found = Vec::new();
         for row in self.rows() {
@@ -110,15 +131,32 @@ impl Calls {
     }
 
     /// The inputs by call, and how often each refusal came; a dot where a call has none
-    /// with that number.
+    /// with that number. Then what the words that were entered met at their slots.
     pub fn summary(&self) -> String {
         let rows = self.rows();
         let mut text = table(&rows, 1..=8, true);
         let later = |row: &Row| row.refusals.iter().any(|&number| number > 8);
         let rows: Vec<Row> = rows.into_iter().filter(later).collect();
         text.push('\n');
-        text + &table(&rows, 9..=16, false)
+        text += &table(&rows, 9..=16, false);
+        text.push('\n');
+        text + &met_table(&self.enterings())
     }
+}
+
+fn met_table(enterings: &[(&str, &Enterings)]) -> String {
+    let mut text = format!("{:17}", "entered, met");
+    for (_, name) in Met::ALL {
+        let _ = write!(text, " {name:>12}");
+    }
+    for (call, enterings) in enterings {
+        let _ = write!(text, "\n{call:17}");
+        for (met, _) in Met::ALL {
+            let _ = write!(text, " {:>12}", enterings.times(met));
+        }
+    }
+    text.push('\n');
+    text
 }
 
 fn table(rows: &[Row], numbers: std::ops::RangeInclusive<u8>, with_totals: bool) -> String {

@@ -6,7 +6,7 @@ use crate::lent::Lent;
 use crate::random::Random;
 use crate::words::word;
 use second::frames::{self, AgeClass, Record, FRAME_LENGTH, NO_RELAY};
-use second::paths::{path_at, Settings, CARDS, ROUNDS};
+use second::paths::{path_at, slot_of, Settings, CARDS, ROUNDS};
 use second::Refusal;
 
 /// A frame's bytes, whether it is well formed or not.
@@ -37,6 +37,13 @@ pub fn record_for(settings: Settings, current: u16, slot: usize, word: i32) -> R
         receiver: settings.p as u8,
         word,
     }
+}
+
+/// The slot and the word that a frame tells; any, if it cannot be read: no call enters it.
+pub fn told(frame: &[u8]) -> (usize, i32) {
+    let Ok(record) = frames::read(frame) else { return (0, 0) };
+    let slot = slot_of(record.level.into(), record.relays.map(usize::from));
+    (slot.expect("a path that is well formed"), record.word)
 }
 
 /// A well-formed record; its cards may repeat.

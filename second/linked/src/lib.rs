@@ -3,8 +3,9 @@
 //!
 //! `ffi` is the library and `random` the numbers behind every input. The modules named
 //! after a part of document 01 make that part's inputs, good and bad, and compare one call
-//! at a time; `books`, `turns` and `outcome` do so for document 02's Q-1. A comparison yields what both programs gave, for a test to hold to a number
-//! or a `Tally` to count.
+//! at a time; `books`, `turns` and `outcome` do so for document 02's Q-1, and `contradictions`
+//! has Q-2's account. A comparison yields what both programs gave, for a test to hold to a
+//! number or a `Tally` to count.
 //!
 //! `soak` and `calls` are behind the program soak; `patterns`, `tables`, `trial`, `coverage`,
 //! `cells` and `drawing` behind the program coverage.
@@ -15,6 +16,7 @@ pub mod books;
 pub mod calls;
 pub mod cells;
 pub mod compare;
+pub mod contradictions;
 pub mod coverage;
 pub mod drawing;
 pub mod ffi;

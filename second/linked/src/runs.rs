@@ -2,12 +2,16 @@
 //! refused ones, second words for a slot, and other calls between them.
 
 use crate::book::Book;
-use crate::frames::{damage, frame_of, record_for};
+use crate::contradictions::{Accepted, Met};
+use crate::frames::{damage, frame_of, record_for, told};
 use crate::random::Random;
 use crate::settings::{any, any_slot, live_slots, of_rounds};
-use crate::tally::Tally;
+use crate::tally::{Enterings, Tally};
 use crate::words::{word, words};
+use second::book::CONTRADICTED;
 use second::paths::{Settings, SLOTS};
+use second::words::E;
+use second::Refusal;
 
 /// Lengths of a book's two lists that are refused, in either order.
 const OTHER_LENGTHS: [[usize; 2]; 6] = [
@@ -23,10 +27,10 @@ const OTHER_LENGTHS: [[usize; 2]; 6] = [
 #[derive(Debug, Default)]
 pub struct Outcomes {
     pub open: Tally,
-    pub enter: Tally,
+    pub enter: Enterings,
     pub refill: Tally,
     pub held_answer: Tally,
-    pub enter_frame: Tally,
+    pub enter_frame: Enterings,
 }
 
 pub struct Run<'a> {
@@ -38,22 +42,26 @@ pub struct Run<'a> {
     words: Vec<i32>,
     current: u16,
     book: Book,
+    accepted: Accepted,
 }
 
 impl<'a> Run<'a> {
     /// A run of a card among n with m rounds. Its book is opened, or holds any words.
     pub fn new(random: &'a mut Random, outcomes: &'a mut Outcomes, (n, m): (usize, usize)) -> Self {
         let settings = of_rounds(random, n, m);
-        let mut book = Book::new(words(random, SLOTS), words(random, SLOTS));
-        if random.one_in(2) {
-            outcomes.open.count(book.open(settings));
-        }
+        let book = Book::new(words(random, SLOTS), words(random, SLOTS));
+        let accepted = Accepted::new(book.words());
         let (words, current) = (words(random, 64), random.bits() as u16);
         let live = live_slots(settings);
-        Run { random, outcomes, settings, live, words, current, book }
+        let mut run = Run { random, outcomes, settings, live, words, current, book, accepted };
+        if run.random.one_in(2) {
+            run.open(settings);
+        }
+        run
     }
 
-    /// Enters one word by slot or by frame, and at times makes another call first.
+    /// Enters one word by slot or by frame, and at times makes another call first. Then the
+    /// book must hold what its accepted words leave.
     pub fn enter(&mut self) {
         if self.random.one_in(6) {
             self.other_call();
@@ -61,23 +69,41 @@ impl<'a> Run<'a> {
         if self.random.one_in(3) {
             self.enter_frame();
         } else {
-            let (settings, slot, word) = (self.settings(), self.slot(), self.word());
-            self.outcomes.enter.count(self.book.enter(settings, slot, word));
+            let (settings, (slot, word)) = (self.settings(), self.slot_and_word());
+            let outcome = self.book.enter(settings, slot, word);
+            self.outcomes.enter.count(outcome);
+            self.accept(outcome, (slot, word));
         }
+        self.accepted.hold(self.book.words());
     }
 
     fn enter_frame(&mut self) {
-        let (settings, word) = (self.settings(), self.word());
-        let slot = self.slot();
+        let (settings, (slot, word)) = (self.settings(), self.slot_and_word());
         let frame = frame(self.random, settings, self.current, slot, word);
         let outcome = self.book.enter_frame(settings, self.current, &frame);
         self.outcomes.enter_frame.count(outcome);
+        self.accept(outcome, told(&frame));
+    }
+
+    /// Takes note of a word that was entered.
+    fn accept(&mut self, outcome: Result<Met, Refusal>, (slot, word): (usize, i32)) {
+        if outcome.is_ok() {
+            self.accepted.add(slot, word);
+        }
+    }
+
+    fn open(&mut self, settings: Settings) {
+        let outcome = self.book.open(settings);
+        self.outcomes.open.count(outcome);
+        if outcome.is_ok() {
+            self.accepted = Accepted::new(&[E; SLOTS]);
+        }
     }
 
     fn other_call(&mut self) {
         let settings = self.settings();
         match self.random.below(16) {
-            0 => self.outcomes.open.count(self.book.open(settings)),
+            0 => self.open(settings),
             1..=3 => self.outcomes.refill.count(self.book.refill(settings)),
             4..=5 => self.current = self.current.wrapping_add(1),
             6..=8 => self.call_with_other_lengths(),
@@ -90,7 +116,7 @@ impl<'a> Run<'a> {
 
     /// Makes each call on a book of which a list or both have another length.
     fn call_with_other_lengths(&mut self) {
-        let (settings, slot, word) = (self.settings(), self.slot(), self.word());
+        let (settings, (slot, word)) = (self.settings(), self.slot_and_word());
         let record = record_for(settings, self.current, slot.min(SLOTS - 1), word);
         let mut lengths = self.random.pick(&OTHER_LENGTHS);
         self.random.shuffle(&mut lengths);
@@ -113,12 +139,14 @@ impl<'a> Run<'a> {
         }
     }
 
-    fn slot(&mut self) -> usize {
-        slot(self.random, &self.live)
-    }
-
-    fn word(&mut self) -> i32 {
-        word_of(self.random, &self.words)
+    /// A slot and a word for it. A contradicted slot would stay so: one time in eight the
+    /// book is opened anew.
+    fn slot_and_word(&mut self) -> (usize, i32) {
+        let slot = slot(self.random, &self.live);
+        if self.book.held(slot) == CONTRADICTED && self.random.one_in(8) {
+            self.open(self.settings);
+        }
+        (slot, word_for(self.random, &self.words, self.book.held(slot)))
     }
 }
 
@@ -131,9 +159,12 @@ pub(crate) fn slot(random: &mut Random, live: &[usize]) -> usize {
     }
 }
 
-/// One of these words; one time in eight any.
-pub(crate) fn word_of(random: &mut Random, words: &[i32]) -> i32 {
-    if random.one_in(8) {
+/// A word for a slot: every other time the one that it holds, if that is not E, so that not
+/// all paths contradict themselves; else one of these words, one time in eight any.
+pub(crate) fn word_for(random: &mut Random, words: &[i32], held: i32) -> i32 {
+    if held != E && random.one_in(2) {
+        held
+    } else if random.one_in(8) {
         word(random)
     } else {
         random.pick(words)

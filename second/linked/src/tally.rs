@@ -1,6 +1,8 @@
-//! Counts of outcomes, so that a test can tell that it met every refusal it is there for.
+//! Counts of outcomes, so that a test can tell that it met every refusal it is there for, and
+//! all that a word can meet at its slot.
 
 use crate::compare::number_of;
+use crate::contradictions::Met;
 use second::Refusal;
 
 /// How often each outcome came: 0, or a refusal's number.
@@ -33,6 +35,37 @@ impl Tally {
             } else {
                 assert_eq!(times, 0, "outcome {number} came");
             }
+        }
+    }
+}
+
+/// The outcomes of a call that enters a word, and what the entered words met at their slots.
+#[derive(Debug, Default)]
+pub struct Enterings {
+    pub outcomes: Tally,
+    met: [u64; Met::ALL.len()],
+}
+
+impl Enterings {
+    /// Counts what a call yields.
+    pub fn count(&mut self, outcome: Result<Met, Refusal>) {
+        self.outcomes.count(outcome);
+        if let Ok(met) = outcome {
+            self.met[met as usize] += 1;
+        }
+    }
+
+    pub fn times(&self, met: Met) -> u64 {
+        self.met[met as usize]
+    }
+
+    /// Each of these outcomes came at least so often, and no other; each thing that a word can
+    /// meet was met as often.
+    pub fn expect(&self, numbers: &[u8], least: u64) {
+        self.outcomes.expect(numbers, least);
+        for (met, name) in Met::ALL {
+            let times = self.times(met);
+            assert!(times >= least, "{name} was met {times} times, not {least}");
         }
     }
 }

@@ -3,16 +3,17 @@
 //! refilling between them.
 
 use crate::books::Books;
-use crate::frames::{frame_of, record_for};
+use crate::contradictions::Accepted;
+use crate::frames::{frame_of, record_for, told};
 use crate::lent::Lent;
 use crate::random::{seed, Random};
-use crate::runs::{frame, slot, word_of, Outcomes};
+use crate::runs::{frame, slot, word_for, Outcomes};
 use crate::settings::{any, live_slots, refused};
 use crate::vote::vote_at;
 use crate::words::{word, words};
+use second::book::CONTRADICTED;
 use second::books::BOOKS;
-use second::frames;
-use second::paths::{slot_of, Settings, CARDS, SLOTS};
+use second::paths::{Settings, CARDS, SLOTS};
 use second::words::{kind, Kind, E};
 
 /// Lengths of the list that are refused, those of one book and of nine among them.
@@ -37,9 +38,8 @@ pub struct Turns<'a> {
 
 /// A book that was opened and that no call in other settings has changed since.
 struct Opened {
-    /// The last accepted word of each path.
-    words: Vec<i32>,
-    /// The answer worked out afresh from them.
+    accepted: Accepted,
+    /// The answer worked out afresh from what the accepted words leave.
     answer: i32,
 }
 
@@ -61,8 +61,8 @@ impl<'a> Turns<'a> {
         run
     }
 
-    /// Makes one call for any sender. Then each opened book must hold the answer that its
-    /// accepted words give.
+    /// Makes one call for any sender. Then each opened book must hold what its accepted words
+    /// leave, and the answer that these give.
     pub fn call(&mut self) {
         let settings = self.settings();
         match self.random.below(40) {
@@ -75,9 +75,10 @@ impl<'a> Turns<'a> {
         }
         for (t, opened) in self.opened.iter().enumerate() {
             let Some(opened) = opened else { continue };
+            opened.accepted.hold(self.books.words(t));
             let held = self.books.held_answer(t, word(self.random));
-            let (seed, words) = (seed(), &opened.words);
-            assert_eq!(held, Ok(opened.answer), "SEED={seed} sender {t} accepted {words:x?}");
+            let (seed, words) = (seed(), opened.accepted.left());
+            assert_eq!(held, Ok(opened.answer), "SEED={seed} sender {t} words {words:x?}");
             self.outcomes.held_answer.count(held);
             self.ordinary += u64::from(kind(opened.answer) == Kind::Ordinary);
         }
@@ -87,7 +88,8 @@ impl<'a> Turns<'a> {
         let outcome = self.books.open(settings);
         self.outcomes.open.count(outcome);
         if outcome.is_ok() {
-            self.opened[settings.t] = Some(Opened { words: vec![E; SLOTS], answer: E });
+            let accepted = Accepted::new(&[E; SLOTS]);
+            self.opened[settings.t] = Some(Opened { accepted, answer: E });
         }
     }
 
@@ -100,7 +102,7 @@ impl<'a> Turns<'a> {
     }
 
     fn enter(&mut self, settings: Settings) {
-        let (slot, word) = (self.slot(settings), word_of(self.random, &self.words));
+        let (slot, word) = self.slot_and_word(settings);
         let outcome = self.books.enter(settings, slot, word);
         self.outcomes.enter.count(outcome);
         if outcome.is_ok() {
@@ -111,23 +113,22 @@ impl<'a> Turns<'a> {
     /// Enters a frame, one time in eight one for another sender, and as often one of the
     /// exchange before or after.
     fn enter_frame(&mut self, settings: Settings) {
-        let (slot, word) = (self.slot(settings), word_of(self.random, &self.words));
+        let (slot, word) = self.slot_and_word(settings);
         let sender = if self.random.one_in(8) { self.settings() } else { settings };
-        let told = Settings { t: sender.t, ..settings };
+        let named = Settings { t: sender.t, ..settings };
         let step = if self.random.one_in(8) { self.random.pick(&[1, u16::MAX]) } else { 0 };
-        let frame = frame(self.random, told, self.current.wrapping_add(step), slot, word);
+        let frame = frame(self.random, named, self.current.wrapping_add(step), slot, word);
         let outcome = self.books.enter_frame(settings, self.current, &frame);
         self.outcomes.enter_frame.count(outcome);
         if outcome.is_ok() {
-            let record = frames::read(&frame).expect("a frame that was entered");
-            let slot = slot_of(record.level.into(), record.relays.map(usize::from));
-            self.accept(settings, slot.expect("the slot where it was entered"), record.word);
+            let (slot, word) = told(&frame);
+            self.accept(settings, slot, word);
         }
     }
 
     /// Makes each call on a list of another length.
     fn call_with_another_length(&mut self, settings: Settings) {
-        let (slot, word) = (self.slot(settings), word_of(self.random, &self.words));
+        let (slot, word) = self.slot_and_word(settings);
         let length = self.random.pick(&OTHER_LENGTHS);
         let mut books = Books::new(words(self.random, length));
         let record = record_for(settings, self.current, slot.min(SLOTS - 1), word);
@@ -143,8 +144,8 @@ impl<'a> Turns<'a> {
     fn accept(&mut self, settings: Settings, slot: usize, word: i32) {
         self.forget_others(settings);
         if let Some(opened) = &mut self.opened[settings.t] {
-            opened.words[slot] = word;
-            let words = Lent::new(opened.words.clone());
+            opened.accepted.add(slot, word);
+            let words = Lent::new(opened.accepted.left().to_vec());
             opened.answer = vote_at(settings, &words, 0, word).expect("the card's settings");
         }
     }
@@ -163,6 +164,16 @@ impl<'a> Turns<'a> {
             1..=2 => refused(self.random),
             _ => self.random.pick(&self.settings),
         }
+    }
+
+    /// A slot of a sender's and a word for it. A contradicted slot would stay so: one time in
+    /// eight that book is opened anew.
+    fn slot_and_word(&mut self, settings: Settings) -> (usize, i32) {
+        let (t, slot) = (settings.t, self.slot(settings));
+        if self.books.held(t, slot) == CONTRADICTED && self.random.one_in(8) {
+            self.open(settings);
+        }
+        (slot, word_for(self.random, &self.words, self.books.held(t, slot)))
     }
 
     /// A slot of a sender's, often one of the first, so that a slot gets second words and

@@ -3,11 +3,23 @@
 use crate::compare::compare;
 use crate::ffi;
 use crate::random::Random;
+use second::book::CONTRADICTED;
 use second::words::{self, E};
 
-/// The ends of the ranges that the document tells apart, those of 32 bits, and 0.
-pub const ENDS: [i32; 10] =
-    [i32::MIN, -1_000_000_000, -999_999_999, 0, 999_999_999, E, E + 1, E + 2, E + 3, i32::MAX];
+/// The ends of the ranges that the document tells apart, those of 32 bits, 0, and Q-2's word.
+pub const ENDS: [i32; 11] = [
+    i32::MIN,
+    -1_000_000_000,
+    -999_999_999,
+    0,
+    999_999_999,
+    E,
+    E + 1,
+    E + 2,
+    E + 3,
+    CONTRADICTED,
+    i32::MAX,
+];
 
 /// The levels, some that are over 3, and some whose low bits are a level.
 pub const LEVELS: [usize; 10] = [0, 1, 2, 3, 4, 5, 256, 65_537, 1 << 32, usize::MAX];
@@ -16,7 +28,7 @@ pub const LEVELS: [usize; 10] = [0, 1, 2, 3, 4, 5, 256, 65_537, 1 << 32, usize::
 pub fn word(random: &mut Random) -> i32 {
     match random.below(4) {
         0 => random.pick(&ENDS).wrapping_add(random.below(5) as i32 - 2),
-        1 => E + random.below(4) as i32,
+        1 => random.pick(&[E, E + 1, E + 2, E + 3, CONTRADICTED]),
         2 => random.below(100) as i32 - 50,
         _ => random.bits() as i32,
     }

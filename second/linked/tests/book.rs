@@ -1,7 +1,16 @@
-//! A card's book: two that words straggle into, and long runs of enterings, both lists
-//! compared after each call.
+//! A card's book: two that words straggle into, one that words contradict each other in, and
+//! long runs of enterings, both lists compared after each call.
 
+#[path = "../../tests/cases/contradictions.rs"]
+mod contradictions;
+#[path = "../../tests/cases/given.rs"]
+mod given;
+
+use contradictions::{hold_contradictions, hold_left};
+use given::with;
+use linked::bench::Bench;
 use linked::book::Book;
+use linked::contradictions::{left_by, Accepted};
 use linked::lent::Lent;
 use linked::random::Random;
 use linked::runs::{Outcomes, Run};
@@ -10,6 +19,7 @@ use linked::vote::vote_at;
 use second::paths::{Settings, SLOTS};
 use second::words::E;
 use second::Refusal;
+use std::panic::catch_unwind;
 use Call::{Enter, Open, Refill, Spoil};
 
 #[derive(Clone, Copy, Debug)]
@@ -38,6 +48,7 @@ const SMALL_BOOK: &[Step] = &[
     (SMALL, Enter(0, 10), DONE, 10, 10),
     (SMALL, Enter(3, 10), DONE, 10, 10),
     (SMALL, Enter(4, 30), DONE, 10, 10),
+    // 10, E and 30.
     (SMALL, Enter(3, 20), DONE, E, E),
     (SMALL, Enter(1, 10), Err(8), E, E),
     (SMALL, Enter(2, 10), Err(8), E, E),
@@ -45,18 +56,28 @@ const SMALL_BOOK: &[Step] = &[
     (SMALL, Enter(11, 10), Err(8), E, E),
     (SMALL, Enter(1_110, 10), Err(8), E, E),
     (SMALL, Enter(1_111, 10), Err(8), E, E),
-    (SMALL, Enter(4, 20), DONE, 20, 20),
+    (SMALL, Enter(4, 20), DONE, 10, 10),
+    (SMALL, Open, DONE, E, E),
+    (SMALL, Enter(4, 20), DONE, E, E),
+    (SMALL, Enter(3, 20), DONE, 20, 20),
+    (SMALL, Enter(0, 10), DONE, 20, 20),
     (SMALL, Enter(3, E + 4), DONE, E, E),
     (SMALL, Enter(0, i32::MIN), DONE, E, E),
+    (SMALL, Open, DONE, E, E),
     (SMALL, Enter(3, E + 1), DONE, E, E),
     (SMALL, Enter(4, E + 1), DONE, E, E),
     (SMALL, Enter(0, E + 1), DONE, E, E),
     (SMALL, Enter(0, E), DONE, E, E),
+    (SMALL, Open, DONE, E, E),
+    (SMALL, Enter(0, E), DONE, E, E),
     (SMALL, Enter(4, -120), DONE, E, E),
     (SMALL, Enter(3, -120), DONE, -120, -120),
     (SMALL, Enter(0, 999_999_999), DONE, -120, -120),
-    (SMALL, Enter(3, 999_999_999), DONE, 999_999_999, 999_999_999),
-    (SMALL, Enter(3, E + 2), DONE, E, E),
+    (SMALL, Enter(3, 999_999_999), DONE, E, E),
+    (SMALL, Open, DONE, E, E),
+    (SMALL, Enter(3, 999_999_999), DONE, E, E),
+    (SMALL, Enter(0, 999_999_999), DONE, 999_999_999, 999_999_999),
+    (SMALL, Enter(4, E + 2), DONE, 999_999_999, 999_999_999),
     (SMALL, Enter(4, -E), DONE, 999_999_999, 999_999_999),
     (SMALL, Enter(3, 999_999_999), DONE, 999_999_999, 999_999_999),
     ([0, 0, 0, 0], Enter(3, 7), Err(1), 999_999_999, 999_999_999),
@@ -67,7 +88,8 @@ const SMALL_BOOK: &[Step] = &[
     ([4, 1, 0, 4], Enter(3, 7), Err(4), 999_999_999, 999_999_999),
 ];
 
-/// Slots 136, 839 and 840 are the paths by relays 0, 2, 5, by 7, 2, 8 and by 7, 2, 9.
+/// Slots 136, 836, 839 and 840 are the paths by relays 0, 2, 5, by 7, 2, 5, by 7, 2, 8 and by
+/// 7, 2, 9.
 const LARGE_BOOK: &[Step] = &[
     (LARGE, Open, DONE, E, E),
     (LARGE, Enter(0, 500), DONE, 500, 500),
@@ -87,10 +109,13 @@ const LARGE_BOOK: &[Step] = &[
     (LARGE, Enter(840, 900), DONE, 500, 500),
     (LARGE, Enter(83, 900), DONE, 500, 500),
     (LARGE, Enter(8, 900), DONE, E, E),
-    (LARGE, Enter(840, -5), DONE, E, E),
-    (LARGE, Enter(839, -5), DONE, 500, 500),
-    (LARGE, Enter(0, 300), DONE, 300, 300),
-    (LARGE, Enter(1, 300), DONE, 300, 300),
+    (LARGE, Enter(839, -5), DONE, E, E),
+    (LARGE, Enter(836, -5), DONE, E, E),
+    // At slot 83 the votes 900, 900, -5 and -5 become 900, E, -5 and -5.
+    (LARGE, Enter(840, -5), DONE, 500, 500),
+    (LARGE, Enter(0, 300), DONE, E, E),
+    (LARGE, Enter(1, 300), DONE, E, E),
+    (LARGE, Enter(4, 300), DONE, 300, 300),
     (LARGE, Enter(840, i32::MAX), DONE, 300, 300),
     (LARGE, Enter(10, -300), DONE, E, E),
     (LARGE, Enter(9, 300), DONE, 300, 300),
@@ -101,7 +126,10 @@ const LARGE_BOOK: &[Step] = &[
     ([10, 3, 10, 10], Enter(0, 7), Err(3), 300, 300),
     ([10, 3, 4, 10], Enter(0, 7), Err(4), 300, 300),
     (LARGE, Spoil, DONE, SPOILT, 300),
-    (LARGE, Enter(0, 300), DONE, 300, 300),
+    // Votes are re-made where the slot is left as it was: contradicted, and with the same word.
+    (LARGE, Enter(0, 300), DONE, E, 300),
+    (LARGE, Enter(4, 300), DONE, E, 300),
+    (LARGE, Enter(3, 300), DONE, 300, 300),
     (LARGE, Spoil, DONE, SPOILT, 300),
     ([10, 3, 4, 10], Refill, Err(4), SPOILT, 300),
     (LARGE, Refill, DONE, 300, 300),
@@ -119,7 +147,7 @@ fn kept(own: [usize; 4], steps: &[Step]) -> Book {
         let settings = settings_of(settings);
         let came = match call {
             Open => book.open(settings),
-            Enter(slot, word) => book.enter(settings, slot, word),
+            Enter(slot, word) => book.enter(settings, slot, word).map(drop),
             Refill => book.refill(settings),
             Spoil => {
                 book = Book::new(book.words().to_vec(), vec![SPOILT; SLOTS]);
@@ -140,6 +168,48 @@ fn worked_books() {
     let large = kept(LARGE, LARGE_BOOK);
     assert_eq!(large.votes()[9], 300, "slot 9 is live");
     assert_eq!(large.votes()[5], SPOILT, "slot 5 is not live");
+}
+
+#[test]
+fn worked_contradictions() {
+    use contradictions::Call;
+    hold_left(left_by);
+    hold_contradictions(|settings, call, [words, mut votes]| {
+        let mut book = Book::new(words.clone(), votes.clone());
+        let outcome = match call {
+            Call::Open => book.open(settings),
+            Call::Enter(slot, word) => book.enter(settings, slot, word).map(drop),
+            Call::EnterFrame(current, frame) => {
+                book.enter_frame(settings, current, &frame).map(drop)
+            }
+            Call::Refill => book.refill(settings),
+            Call::Fill(given) => with(given, |exchange| {
+                let [words, votes] = Bench::of(exchange).fill(settings.p, &words, &votes)?;
+                book = Book::new(words, votes);
+                DONE
+            }),
+            Call::Write(slot, vote) => {
+                votes[slot] = vote;
+                book = Book::new(words, votes);
+                DONE
+            }
+        };
+        (outcome, [book.words().to_vec(), book.votes().to_vec()])
+    });
+}
+
+/// What both programs do wrong alike is seen too: the first word left, the last one, or E.
+#[test]
+fn words_that_the_accepted_ones_do_not_leave_are_seen() {
+    let seen = |held: i32| {
+        let mut accepted = Accepted::new(&[E; SLOTS]);
+        accepted.add(3, 5);
+        accepted.add(3, 7);
+        let mut words = [E; SLOTS];
+        words[3] = held;
+        catch_unwind(|| accepted.hold(&words)).is_err()
+    };
+    assert_eq!([5, 7, E, 1_000_000_009].map(seen), [true, true, true, false]);
 }
 
 #[test]
@@ -166,7 +236,7 @@ fn long_runs_with_every_number_of_cards_and_rounds() {
             }
         }
     }
-    let enterings = outcomes.enter.total() + outcomes.enter_frame.total();
+    let enterings = outcomes.enter.outcomes.total() + outcomes.enter_frame.outcomes.total();
     assert!(enterings >= (34 * RUNS_OF_EACH * ENTERINGS) as u64);
     outcomes.open.expect(&[0, 1, 2, 3, 4, 5], 10);
     outcomes.refill.expect(&[0, 1, 2, 3, 4, 5], 10);

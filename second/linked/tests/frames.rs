@@ -7,6 +7,7 @@ mod paths;
 
 use cases::{hold_ages, hold_reading, hold_writing, SAMPLE_FRAME};
 use linked::book::Book;
+use linked::contradictions::Met;
 use linked::ffi::FIELDS;
 use linked::frames::{
     age, any_record, class_number, damage, frame_of, next_exchange, read, record_for, well_formed,
@@ -62,6 +63,8 @@ const ARRIVALS: &[Arrival] = &[
     ("relay 1, the receiver", &[(9, 1)], (Err(8), E), (Err(12), -120)),
     ("level 2, over m", &[(8, 2), (10, 3)], (Err(8), E), (Err(12), -120)),
     ("relay 2, word -120", &[], (Ok(()), -120), (Err(12), -120)),
+    // Relay 2 has told -120 in exchange 3 and in exchange 4.
+    ("exchange 4, word -119", &[(6, 4), (16, 137)], (Err(13), -120), (Ok(()), E)),
 ];
 
 #[test]
@@ -75,7 +78,8 @@ fn worked_arrivals() {
     for (current, about, bytes, (outcome, held)) in at_3.chain(at_4) {
         let mut frame = SAMPLE_FRAME;
         bytes.iter().for_each(|&(place, byte)| frame[place] = byte);
-        assert_eq!(book.enter_frame(settings, current, &frame), outcome, "{about}, at {current}");
+        let came = book.enter_frame(settings, current, &frame).map(drop);
+        assert_eq!(came, outcome, "{about}, at {current}");
         assert_eq!(book.held_answer(9), Ok(held), "{about}, at {current}");
     }
 }
@@ -88,7 +92,7 @@ fn worked_paths() {
         // No vote that is made is a bad word.
         let mut book = Book::new(vec![E; SLOTS], vec![i32::MIN; SLOTS]);
         let record = Record { exchange: 3, sender: 4, level, relays, receiver: 6, word: -120 };
-        assert_eq!(book.enter_frame(settings, 3, &frame_of(&record)), Ok(()), "{record:?}");
+        assert_eq!(book.enter_frame(settings, 3, &frame_of(&record)), Ok(Met::E), "{record:?}");
         let places = |list: &[i32], before| {
             (0..SLOTS).rev().filter(|&place| list[place] != before).collect::<Vec<_>>()
         };
@@ -116,14 +120,17 @@ fn every_byte_of_a_frame_damaged_by_every_value() {
     outcomes.expect(&[0, 10, 11, 14], 100_000);
 }
 
-/// A book for each n and m, and a frame for it of which every byte takes every value.
+/// A book for each n and m, opened or of any words, and a frame for it of which every byte
+/// takes every value.
 #[test]
 fn every_byte_of_an_entered_frame_damaged_by_every_value() {
     let mut random = Random::new("damaged frames entered");
     let mut outcomes = Tally::default();
     for (n, m) in all_rounds() {
         let settings = of_rounds(&mut random, n, m);
-        let mut book = Book::new(words(&mut random, SLOTS), words(&mut random, SLOTS));
+        let any = words(&mut random, SLOTS);
+        let received = if random.one_in(4) { any } else { vec![E; SLOTS] };
+        let votes = words(&mut random, SLOTS);
         let (current, slot) = (random.bits() as u16, random.pick(&live_slots(settings)));
         let record = record_for(settings, current, slot, word(&mut random));
         let mut frame = frame_of(&record);
@@ -131,6 +138,7 @@ fn every_byte_of_an_entered_frame_damaged_by_every_value() {
             let kept = frame[place];
             for byte in 0..=255 {
                 frame[place] = byte;
+                let mut book = Book::new(received.clone(), votes.clone());
                 outcomes.count(book.enter_frame(settings, current, &frame));
             }
             frame[place] = kept;

@@ -2,6 +2,7 @@
 
 use linked::calls::Calls;
 use linked::compare::compare;
+use linked::contradictions::Met;
 use linked::soak::difference;
 use std::panic;
 use std::process::{Command, Output};
@@ -20,6 +21,7 @@ fn text(output: &Output) -> String {
 fn every_refusal_comes_and_nothing_differs() {
     let summary = text(&soak(&["--count", "300000"]));
     assert!(summary.ends_with("inputs, no difference\n"), "{summary}");
+    assert!(summary.contains("\nentered, met "), "{summary}");
 }
 
 #[test]
@@ -47,6 +49,21 @@ fn refusals_that_did_not_come_are_named() {
     assert!(calls.unexpected().is_empty());
     calls.bound.add(8);
     assert_eq!(calls.unexpected(), ["bound: 8"]);
+}
+
+#[test]
+fn what_no_word_met_is_named() {
+    let mut calls = Calls::default();
+    assert_eq!(calls.unmet().len(), 16);
+    for (met, _) in Met::ALL {
+        calls.book.enter.count(Ok(met));
+        calls.book.enter_frame.count(Ok(met));
+        calls.books.enter_frame.count(Ok(met));
+    }
+    calls.books.enter.count(Ok(Met::Same));
+    calls.books.enter.count(Err(8));
+    let unmet = ["books_enter: E", "books_enter: another", "books_enter: contradicted"];
+    assert_eq!(calls.unmet(), unmet);
 }
 
 #[test]

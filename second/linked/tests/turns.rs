@@ -18,7 +18,7 @@ use linked::random::Random;
 use linked::runs::Outcomes;
 use linked::settings::{all, all_rounds, live_slots};
 use linked::tables::{Limits, Tables, X};
-use linked::tally::Tally;
+use linked::tally::{Enterings, Tally};
 use linked::turns::Turns;
 use linked::words::{word, words};
 use outcomes::hold_outcomes;
@@ -37,8 +37,10 @@ fn worked_long_lists() {
         let mut books = Books::new(list);
         let came = match call {
             Call::Open => books.open(settings),
-            Call::Enter(slot, word) => books.enter(settings, slot, word),
-            Call::EnterFrame(current, frame) => books.enter_frame(settings, current, frame),
+            Call::Enter(slot, word) => books.enter(settings, slot, word).map(drop),
+            Call::EnterFrame(current, frame) => {
+                books.enter_frame(settings, current, frame).map(drop)
+            }
             Call::Refill => books.refill(settings),
         };
         (came, books.list().to_vec())
@@ -51,34 +53,41 @@ fn worked_outcomes() {
     hold_outcomes(|exchange, before| Bench::of(exchange).set_row(before));
 }
 
-/// Each call once in every good setting, on books of any words.
+/// Each call in every good setting, on books of any words and on opened ones: a word, and the
+/// same or another by a frame.
 #[test]
 fn every_setting() {
     let mut random = Random::new("long lists");
-    let mut outcomes = Tally::default();
+    let (mut others, mut enterings) = (Tally::default(), Enterings::default());
     let mut books = Books::new(words(&mut random, BOOKS));
     for settings in all() {
-        let (slot, word) = (random.pick(&live_slots(settings)), word(&mut random));
-        outcomes.count(books.enter(settings, slot, word));
-        outcomes.count(books.refill(settings));
-        let frame = frame_of(&record_for(settings, 3, slot, word));
-        outcomes.count(books.enter_frame(settings, 3, &frame));
+        if random.one_in(2) {
+            others.count(books.open(settings));
+        }
+        let (slot, first) = (random.pick(&live_slots(settings)), word(&mut random));
+        enterings.count(books.enter(settings, slot, first));
+        others.count(books.refill(settings));
+        let second = if random.one_in(2) { first } else { word(&mut random) };
+        let frame = frame_of(&record_for(settings, 3, slot, second));
+        enterings.count(books.enter_frame(settings, 3, &frame));
         if random.one_in(8) {
-            outcomes.count(books.open(settings));
             books = Books::new(words(&mut random, BOOKS));
         }
     }
-    outcomes.expect(&[0], 3_000);
+    others.expect(&[0], 1_500);
+    enterings.expect(&[0], 100);
 }
 
-/// A frame for the book of each of ten senders, of which every byte takes many values.
+/// A frame for the book of each of ten senders, opened or of any words, of which every byte
+/// takes many values.
 #[test]
 fn every_byte_of_a_frame_damaged() {
     let mut random = Random::new("frames in long lists");
     let mut outcomes = Tally::default();
     for t in 0..CARDS {
         let settings = Settings { n: CARDS, m: 3, t, p: 4 };
-        let mut books = Books::new(words(&mut random, BOOKS));
+        let any = words(&mut random, BOOKS);
+        let list = if random.one_in(4) { any } else { vec![E; BOOKS] };
         let (current, slot) = (random.bits() as u16, random.pick(&live_slots(settings)));
         let frame = frame_of(&record_for(settings, current, slot, word(&mut random)));
         for place in 0..FRAME_LENGTH {
@@ -86,6 +95,7 @@ fn every_byte_of_a_frame_damaged() {
             for byte in (0..=11).chain([any, 127, 128, 254, 255]) {
                 let mut frame = frame;
                 frame[place] = byte;
+                let mut books = Books::new(list.clone());
                 outcomes.count(books.enter_frame(settings, current, &frame));
             }
         }

@@ -1,5 +1,5 @@
-//! Document 02, Q-1: the long list. Its places are worked by hand: a sender's words stand
-//! from 2,222 t on, its votes from 2,222 t + 1,111 on.
+//! Document 02, Q-1: the long list, and Q-2 in it. Its places are worked by hand: a sender's
+//! words stand from 2,222 t on, its votes from 2,222 t + 1,111 on.
 
 use second::paths::Settings;
 use second::words::E;
@@ -7,6 +7,9 @@ use second::Refusal;
 use Call::{Enter, EnterFrame, Open, Refill};
 
 const E1: i32 = E + 1;
+
+/// Contradicted.
+const C: i32 = 1_000_000_009;
 
 /// The length of the list.
 const LENGTH: usize = 22_220;
@@ -56,13 +59,16 @@ const SENDER_9: [usize; 4] = [10, 3, 9, 6];
 const FRAME_OF_2: &[u8] = b"OMH\x00\x01\x00\x03\x02\x01\x03\xFF\xFF\x01\x00\x00\x00\x1E";
 const FRAME_OF_0: &[u8] = b"OMH\x00\x01\x00\x03\x00\x01\x03\xFF\xFF\x01\x00\x00\x00\x1E";
 
+/// The same relay again: the sender 2 told it 31.
+const OTHER_OF_2: &[u8] = b"OMH\x00\x01\x00\x03\x02\x01\x03\xFF\xFF\x01\x00\x00\x00\x1F";
+
 /// Calls on a list that is all E.
 const STEPS: &[Step] = &[
     (SENDER_2, Enter(1, 10), DONE, &[(4_445, 10), (5_556, 10)]),
     (SENDER_2, Enter(0, 10), DONE, &[(4_444, 10), (5_555, 10)]),
     // The other senders' books have the same slots at other places.
     (SENDER_1, Enter(0, -5), DONE, &[(2_222, -5), (3_333, -5)]),
-    (SENDER_0, Enter(4, 7), DONE, &[(4, 7), (1_115, 7)]),
+    (SENDER_0, Enter(3, 7), DONE, &[(3, 7), (1_114, 7)]),
     (SENDER_9, Enter(839, 900), DONE, &[(20_837, 900), (21_948, 900)]),
     (SENDER_9, Enter(83, 900), DONE, &[(20_081, 900), (21_192, 900)]),
     (SENDER_9, Enter(8, 900), DONE, &[(20_006, 900), (21_117, 900)]),
@@ -84,11 +90,29 @@ const STEPS: &[Step] = &[
     ([4, 4, 2, 1], Enter(1, 20), Err(2), &[]),
     ([4, 1, 4, 1], Enter(1, 20), Err(3), &[]),
     ([4, 1, 2, 4], Enter(1, 20), Err(4), &[]),
-    // A second word for a path: 10, 30 and 10 becomes 10, 30 and 30.
-    (SENDER_2, Enter(1, 30), DONE, &[(4_445, 30), (5_556, 30), (5_555, 30)]),
-    // Every vote is as refilling makes it. Of sender 0 nothing stands but slot 4 and its vote.
+    // A second word on a path: 10, 10 and 30 becomes 10, E and 30; then 10, E and E.
+    (SENDER_2, Enter(1, 10), DONE, &[]),
+    (SENDER_2, Enter(1, 30), DONE, &[(4_445, C), (5_556, E), (5_555, E)]),
+    (SENDER_2, Enter(1, 10), DONE, &[]),
+    (SENDER_2, EnterFrame(3, FRAME_OF_2), DONE, &[]),
+    (SENDER_2, EnterFrame(4, OTHER_OF_2), Err(12), &[]),
+    (SENDER_0, EnterFrame(3, OTHER_OF_2), Err(15), &[]),
+    (SENDER_2, EnterFrame(3, OTHER_OF_2), DONE, &[(4_448, C), (5_559, E), (5_555, 10)]),
+    (SENDER_2, EnterFrame(3, FRAME_OF_2), DONE, &[]),
+    // The same slots of other senders are not contradicted by that.
+    (SENDER_0, Enter(4, 30), DONE, &[]),
+    (SENDER_1, Enter(0, -5), DONE, &[]),
+    (SENDER_1, Enter(0, E), DONE, &[(2_222, C), (3_333, E)]),
+    (SENDER_9, Enter(839, 900), DONE, &[]),
+    (SENDER_9, Enter(839, 901), DONE, &[(20_837, C), (21_948, E)]),
+    // Every vote is as refilling makes it. Opening clears one sender's book.
     (SENDER_2, Refill, DONE, &[]),
-    (SENDER_0, Open, DONE, &[(4, E), (1_115, E)]),
+    (SENDER_9, Refill, DONE, &[]),
+    (SENDER_0, Open, DONE, &[(3, E), (4, E), (1_114, E), (1_115, E)]),
+    (SENDER_2, Enter(1, 10), DONE, &[]),
+    (SENDER_2, Open, DONE, &[(4_444, E), (4_445, E), (4_448, E), (5_555, E)]),
+    (SENDER_2, Enter(1, 10), DONE, &[(4_445, 10), (5_556, 10)]),
+    (SENDER_1, Enter(0, -5), DONE, &[]),
 ];
 
 /// What somebody else has written into a list that is all E: words of sender 2 and of sender

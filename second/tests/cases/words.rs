@@ -17,8 +17,8 @@ const fn bad(word: i32) -> Word {
     (word, Kind::Bad, [E; 4], E, E)
 }
 
-/// Both ends of every range, and words near them.
-pub const WORDS: [Word; 22] = [
+/// Both ends of every range, words near them, and the one that Q-2 stores.
+pub const WORDS: [Word; 23] = [
     bad(-2_147_483_648),
     bad(-2_147_483_647),
     bad(-1_000_000_003),
@@ -39,6 +39,7 @@ pub const WORDS: [Word; 22] = [
     (1_000_000_003, Kind::Missing { wraps: 3 }, [E, E, E, E3], E, E2),
     bad(1_000_000_004),
     bad(1_000_000_005),
+    bad(1_000_000_009),
     bad(2_147_483_646),
     bad(2_147_483_647),
 ];

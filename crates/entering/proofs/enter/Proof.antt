@@ -1,15 +1,13 @@
 -- `entering::enter` meets its contract: the verdict decides; the word is stored, and the votes re-made on the way up with what the slot's path has.
-use Prim.Native.Nat.{_<_}
-use mathlib.Core.Path.{ap₂, _∙_}
+use mathlib.Core.Path.{ap, _∙_}
 use native.Mathlib.Omega.{arith}
-use borrow.Author.Needs.{needs, sfits-of}
+use borrow.Author.Needs.{needs}
 use denote.Ref.{now}
-use lib.Seq.{lt-length-set}
 use Rattle.ground.proofs.Answers.{outcome-refused, outcome-done}
 use Rattle.ground.proofs.Bits.{back-is}
 use Rattle.paths.proofs.Live.{live-slot}
 use Rattle.book.specs.Book.{bookOf, Sized}
-use Rattle.entering.specs.Entered.{holds}
+use Rattle.entering.specs.Entered.{stored}
 use Rattle.entering.specs.Remaking.{Enters}
 use Rattle.entering.proofs.Admitted.{admit-verdict, admit-asks, entered-both}
 use Rattle.entering.proofs.enter.Statement.{statement}
@@ -45,32 +43,11 @@ asked c =
     let a = book .before .before .before .before .args in
     admit-asks (a .s) (bookOf (now (a .words)) (now (a .votes))) (a .slot) (admit .admit .ensures) (book .book-refused .ensures) (c .if1 .left)
 
-inside : (c : tie.Else1) → c .before .before .before .before .before .before .before .args .slot < 1111
-inside c = live-slot _ _ (asked c .1 .alive)
-
-mul-held-after : tie.Need-mul-held-after
-mul-held-after c = omega (arith, inside c)
-
-copy-out-held-after : tie.Need-slice-copy-out-held-after
-copy-out-held-after c = omega (arith, inside c, asked c .0 .words-long)
-
-held-after-requires : tie.Need-held-after-requires
-held-after-requires c κs = search needs
-
-mul-t21 : tie.Need-mul-t21
-mul-t21 c = omega (arith, inside (c .before .before))
-
-set-from-words : tie.Need-slice-set-from-words
-set-from-words c = omega (arith, inside (c .before .before), asked (c .before .before) .0 .words-long)
-
-way-words-requires : tie.Need-way-words-requires
-way-words-requires c κs =
-    let else = c .before .before .before in
-    let a = else .before .before .before .before .before .before .before .args in
-    lt-length-set (now (a .words)) (a .slot) _ {i = a .slot} (omega (arith, inside else, asked else .0 .words-long))
+store-requires : tie.Need-store-requires
+store-requires c κs = let given = asked (c .before) in omega (arith, live-slot _ _ (given .1 .alive), given .0 .words-long)
 
 walk-up-requires : tie.Need-walk-up-requires
-walk-up-requires c κs = asked (c .before .before .before .before .before .before .before) .1
+walk-up-requires c κs = asked (c .before .before .before .before .before .before) .1
 
 same-length-3 : tie.Need-same-length-3
 same-length-3 c = search needs
@@ -81,19 +58,16 @@ same-length-4 c = search needs
 returns-2 : tie.Need-returns-2
 returns-2 c =
     let walk = c .before in
-    let copy = walk .before .before .before .before in
-    let store = copy .before .before in
+    let store = walk .before .before .before .before .before in
     let none = store .before .before in
     let admit = none .before in
     let book = admit .before .before in
     let start = book .before .before .before .before in
     let a = start .args in
     outcome-done (admit-verdict (a .s) (bookOf (now (a .words)) (now (a .votes))) (a .slot) (admit .admit .ensures) (book .book-refused .ensures)) (none .if1 .left) _
-    (entered-both (a .s) (a .slot) (a .word) (now (a .words)) (now (a .votes))
-    (back-is (sfits-of (store .held-after .ok)) ∙ store .held-after .ensures ∙ ap₂ holds (back-is (sfits-of (store .before .held-after-arg .given))) (back-is (start .fits .word)))
-    (copy .way-words .ensures) (walk .walk-up .ensures))
+    (entered-both (a .s) (a .slot) (a .word) (now (a .words)) (now (a .votes)) (store .store .ensures .0 ∙ ap (stored (now (a .words)) (a .slot)) (back-is (start .fits .word))) (store .store .ensures .1) (walk .walk-up .ensures))
 
 pub enter-spec : {M : Type 1} → statement M
 enter-spec =
     tie.close
-    (tie.spec may-relay-requires book-refused-requires admit-requires same-length same-length-2 returns mul-held-after copy-out-held-after held-after-requires mul-t21 set-from-words way-words-requires walk-up-requires same-length-3 same-length-4 returns-2)
+    (tie.spec may-relay-requires book-refused-requires admit-requires same-length same-length-2 returns store-requires walk-up-requires same-length-3 same-length-4 returns-2)

@@ -17,20 +17,21 @@ usage: soak [--count N] [--seed S] [--progress]
 Gives the proved library and the second program the same hostile inputs, at
 least N of them, and compares all that they yield: answers, refusals, and every
 lent list, which a refusal leaves as it was. Then tells how often each refusal
-came in each call.
+came in each call, and what entered words met at their slots: E, the same word,
+another word, or that the slot was contradicted.
 
   --count N     number of inputs; 1000000 where it is not given
   --seed S      another run; a seed repeats its run exactly; 1 where it is not given
   --progress    a line each second on standard error, as on a terminal
 
 Ends with 0; with 1 where the two differ, a call gave a refusal that it cannot
-give, or, from 100000 inputs on, did not give one that it can; with 2 where the
-command line is wrong.
+give, or, from 100000 inputs on, did not give one that it can, or its words did
+not meet each of the four; with 2 where the command line is wrong.
 ";
 
 const USUAL_COUNT: u64 = 1_000_000;
 
-/// From so many inputs on every refusal must have come.
+/// From so many inputs on every refusal must have come, and words have met all that they can.
 const ENOUGH: u64 = 100_000;
 
 fn main() -> ExitCode {
@@ -72,7 +73,7 @@ fn run(options: &Options) -> Result<(), String> {
     tell(&outcome?)
 }
 
-/// Prints the summary, and fails where the refusals are not those that can come.
+/// Prints the summary, and fails where not all came that can come, or something else did.
 fn tell(calls: &Calls) -> Result<(), String> {
     let (seed, total) = (random::seed(), calls.total());
     print(&format!("{}\nseed {seed}, {total} inputs, no difference\n", calls.summary()))?;
@@ -83,6 +84,10 @@ fn tell(calls: &Calls) -> Result<(), String> {
     let missing = calls.missing();
     if total >= ENOUGH && !missing.is_empty() {
         return Err(format!("refusals that can come did not: {}", missing.join(", ")));
+    }
+    let unmet = calls.unmet();
+    if total >= ENOUGH && !unmet.is_empty() {
+        return Err(format!("no entered word met: {}", unmet.join(", ")));
     }
     Ok(())
 }
