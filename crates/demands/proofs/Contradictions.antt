@@ -20,6 +20,7 @@ use Rattle.book.specs.Book.{Book, Sized}
 use Rattle.book.specs.Asked.{bookChecks, slotChecks, openAsked, heldAsked}
 use Rattle.entering.specs.Entered.{contradicted}
 use Rattle.entering.specs.Asked.{enterAsked}
+use Rattle.entering.specs.Run.{Entry}
 use Rattle.entering.specs.Accepted.{acceptedAt, repeats}
 use Rattle.entering.proofs.Holding.{left-agreed, repeated}
 use Rattle.entering.proofs.FromOpening.{opened-word}
@@ -27,13 +28,19 @@ use Rattle.arrivals.specs.Entry.{frameAsked}
 use Rattle.arrivals.specs.Run.{Arrival, entriesOf, arrived, openArrived}
 use Rattle.arrivals.proofs.Runs.{refused-keeps}
 use Rattle.books.specs.Books.{booksWords, bookFrom}
-use Rattle.books.specs.Run.{Mixed, called}
-use Rattle.exchange.specs.Exchange.{exchange, dealt}
+use Rattle.books.specs.Run.{Mixed, called, openCalled, ownOf}
+use Rattle.books.proofs.Parts.{from-sized, good-has}
+use Rattle.books.proofs.Runs.{mixed-run}
+use Rattle.exchange.specs.Exchange.{exchange, dealt, answerOf}
 use Rattle.bench.specs.Asked.{answerChecks, answerForAsked}
 use Rattle.dealing.specs.Asked.{fillChecks, fillAsked}
 use Rattle.dealing.proofs.Filling.{filled-word}
 use Rattle.demands.proofs.Cards.{holds-dealt}
 use Rattle.demands.proofs.Runs.{stays-arrived, stays-called}
+
+-- On each live path of s the words accepted are the one that the exchange deals there, once or more often.
+abbrev pub OnlyDealt : Settings → ℤ → List ℕ → List ℤ → List Entry → Type 0
+OnlyDealt s x statuses words es = (k : ℕ) → T (live s k) → repeats (dealt (ruleOf (s .rack)) (exchange (turnOf s) x statuses words) k (s .p)) (acceptedAt s k es) ≡ true
 
 -- by settings s, whatever they are; b is any book, of any length
 pub record Contradictions (s : Settings) : Type 0 where
@@ -50,8 +57,28 @@ pub record Contradictions (s : Settings) : Type 0 where
   pub opened : (b : Book) → openAsked s b .yields ≡ value tt → (k : ℕ) → k < slots → at (openAsked s b .leaves .words) k ≡ E
   -- Filling deals over what was there at the live slots, and leaves the others.
   pub filled : (x : ℤ) (statuses : List ℕ) (words : List ℤ) (b : Book) → fillAsked s x statuses words b .yields ≡ value tt → (k : ℕ) → k < slots → at (fillAsked s x statuses words b .leaves .words) k ≡ cond (live s k) (dealt (ruleOf (s .rack)) (exchange (turnOf s) x statuses words) k (s .p)) (at (b .words) k)
-  -- A card that enters the words dealt to it, each once or more often, in any order and with refused ones between them, holds the answer that the bench tells of it.
-  pub told-again : (x : ℤ) (statuses : List ℕ) (words : List ℤ) (w : ℤ) → answerForAsked s x statuses words ≡ value w → (b : Book) → Sized b → (xs : List Arrival) → ((k : ℕ) → T (live s k) → repeats (dealt (ruleOf (s .rack)) (exchange (turnOf s) x statuses words) k (s .p)) (acceptedAt s k (entriesOf s xs)) ≡ true) → heldAsked (openArrived s b xs) ≡ value w
+  -- A card that enters the words dealt to it, each once or more often, in any order and with refused ones between them, holds the answer that the bench tells of it,
+  pub told-again : (x : ℤ) (statuses : List ℕ) (words : List ℤ) (w : ℤ) → answerForAsked s x statuses words ≡ value w → (b : Book) → Sized b → (xs : List Arrival) → OnlyDealt s x statuses words (entriesOf s xs) → heldAsked (openArrived s b xs) ≡ value w
+  -- and in the long list too, whatever is called for other senders meanwhile.
+  pub told-again-long : (x : ℤ) (statuses : List ℕ) (words : List ℤ) (w : ℤ) → answerForAsked s x statuses words ≡ value w → (l : List ℤ) → length l ≡ booksWords → (xs : List (Mixed s)) → OnlyDealt s x statuses words (entriesOf s (ownOf s xs)) → heldAsked (bookFrom (s .t) (openCalled s l xs)) ≡ value w
+
+-- ---- a card that enters what it was dealt
+
+module _ (s : Settings) (x : ℤ) (statuses : List ℕ) (words : List ℤ) (w : ℤ) (e : answerForAsked s x statuses words ≡ value w) where
+  told : (verdict (answerChecks s x statuses words) ≡ 0) × (answerOf (ruleOf (s .rack)) (exchange (turnOf s) x statuses words) (s .p) ≡ w)
+  unfolding answerForAsked
+  told = value-verdict _ (verdict (answerChecks s x statuses words)) e
+
+  checked : verdict (settingsChecks s) ≡ 0
+  checked = no-verdicts (settingsChecks s) _ tt (told .0) .0
+
+  dealt-again : (b : Book) → Sized b → (xs : List Arrival) → OnlyDealt s x statuses words (entriesOf s xs) → heldAsked (openArrived s b xs) ≡ value w
+  dealt-again b z xs h =
+      holds-dealt (exchange (turnOf s) x statuses words) (s .p) checked b z xs (λ k t. left-agreed s k (entriesOf s xs) ∙ repeated _ _ (h k t)) ∙ ap value (told .1)
+
+  dealt-again-long : (l : List ℤ) → length l ≡ booksWords → (xs : List (Mixed s)) → OnlyDealt s x statuses words (entriesOf s (ownOf s xs)) → heldAsked (bookFrom (s .t) (openCalled s l xs)) ≡ value w
+  dealt-again-long l long xs h =
+      ap heldAsked (mixed-run s checked l long xs) ∙ dealt-again (bookFrom (s .t) l) (from-sized (good-has s l checked long)) (ownOf s xs) h
 
 pub contradictions : (s : Settings) → Contradictions s
 contradictions s = record {
@@ -63,8 +90,6 @@ contradictions s = record {
   opened = λ b e k h. unfold outcomeBy after in rw (value-verdict tt (verdict (bookChecks s b)) e .0) (opened-word (ruleOf (s .rack)) k h);
   filled = λ x statuses words b e k h. unfold fillAsked outcomeBy after in
       rw (value-verdict tt (verdict (fillChecks s x statuses words b)) e .0) (filled-word (ruleOf (s .rack)) (exchange (turnOf s) x statuses words) (s .p) b k h);
-  told-again = λ x statuses words w e b z xs h. unfold answerForAsked in
-      let told = value-verdict _ (verdict (answerChecks s x statuses words)) e in
-      holds-dealt (exchange (turnOf s) x statuses words) (s .p) (no-verdicts (settingsChecks s) _ tt (told .0) .0) b z xs (λ k t. left-agreed s k (entriesOf s xs) ∙ repeated _ _ (h k t))
-      ∙ ap value (told .1);
+  told-again = dealt-again s;
+  told-again-long = dealt-again-long s;
 }

@@ -109,7 +109,7 @@ fn held_after(old: i32, new: i32) -> i32
     CONTRADICTED
 }
 
-// Stores a word at a slot. Yields a copy of the words there and at the three slots above it, above slot 0 its own again: all that the votes on the way up are made from.
+// Stores a word at a slot. Yields a copy of the words there and at the three slots above it, above slot 0 its own again: all that the votes on the way up are made from. The slots above come first, so that the compiler folds the tests on the slot together.
 fn store(words: &mut [i32], slot: usize, word: i32) -> [i32; LEVELS]
     requires { ⌜ slot < length (now words) ⌝ }
     ensures { λ r. ⌜ (now (words .exit) ≡ stored (now (words .entry)) slot word) × (r ≡ wayWords (now (words .exit)) slot) ⌝ }
