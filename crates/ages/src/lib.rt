@@ -1,8 +1,11 @@
 // Document 01, 'Frames': exchange numbers, and a frame's age.
+
+#![tactic(auto)]
+
 ghost use Rattle.std.specs.Prelude.{◌≡◌};
 ghost use Rattle.ages.specs.Ages.{next_number, age_of, class_of};
 
-#[derive(Drop)]
+#[derive(Clone, Copy)]
 pub enum Age {
     Current,
     Old,

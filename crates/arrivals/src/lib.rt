@@ -1,4 +1,7 @@
 // Document 01, 'Frames' and 'Refusal numbers': a frame entered in a book.
+
+#![tactic(auto)]
+
 ghost use Rattle.std.specs.Prelude.{◌≡◌};
 ghost use Rattle.ground.specs.Checks.{verdict, next};
 ghost use Rattle.ground.specs.Answer.{refused, outcome, of_done};
@@ -30,7 +33,7 @@ fn untimely(s: Settings, current: u16, f: Frame) -> u8
 }
 
 // The entry that a frame gives its book.
-#[derive(Drop)]
+#[derive(Clone, Copy)]
 pub enum Carried {
     Entry { slot: usize, word: i32 },
     Refused(u8),

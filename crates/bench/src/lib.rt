@@ -1,4 +1,7 @@
 // Document 01, 'The exchange on the bench': one card's answer, and all answers.
+
+#![tactic(auto)]
+
 ghost use Rattle.std.specs.Prelude.{◌≡◌, ◌+◌, ◌≤◌, ◌<◌, length};
 ghost use Rattle.ground.specs.Answer.{outcome, of_told, of_done};
 ghost use Rattle.words.specs.Rule.{omh};

@@ -1,4 +1,7 @@
 // Document 01, 'The book': opened, and the held answer.
+
+#![tactic(auto)]
+
 ghost use Rattle.std.specs.Prelude.{◌≡◌, length, replicate};
 ghost use Rattle.ground.specs.Checks.{verdict};
 ghost use Rattle.ground.specs.Answer.{outcome, of_told, of_done};

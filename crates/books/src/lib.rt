@@ -1,4 +1,7 @@
 // Document 02, Q-1: a card's books, one for each sender, in one list.
+
+#![tactic(auto)]
+
 ghost use Rattle.std.specs.Prelude.{◌*◌, ◌<◌, ◌≡◌, ◌&&◌, eqb, ltb, length};
 ghost use Rattle.ground.specs.Checks.{verdict, next};
 ghost use Rattle.ground.specs.Answer.{refused, outcome, of_done};

@@ -1,4 +1,7 @@
 // Document 01, 'The exchange on the bench': whether the bound holds.
+
+#![tactic(auto)]
+
 ghost use Rattle.std.specs.Prelude.{◌≡◌, ◌&&◌, eqb, get_or};
 ghost use Rattle.ground.specs.Checks.{verdict};
 ghost use Rattle.ground.specs.Lists.{count};
@@ -8,7 +11,7 @@ ghost use Rattle.bound.specs.Bound.{of_bounded, bound_checks, bound_asked};
 use ground::{bytes, refusal};
 use settings::{Rack, Settings};
 
-#[derive(Drop)]
+#[derive(Clone, Copy)]
 pub enum Bounded {
     Held,
     NotHeld,

@@ -1,4 +1,7 @@
 // Document 01, 'The book': a word entered at a slot, and the votes made again from there up to slot 0; document 02, Q-2: what stands where two different words came.
+
+#![tactic(auto)]
+
 ghost use Rattle.std.specs.Prelude.{◌≡◌, ◌<◌, length};
 ghost use Rattle.ground.specs.Answer.{outcome, of_done};
 ghost use Rattle.ground.specs.Lists.{table};

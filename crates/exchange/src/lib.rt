@@ -1,4 +1,7 @@
 // Document 01, 'The exchange on the bench': what it is given, when that is refused, and what a card of each status sends.
+
+#![tactic(auto)]
+
 ghost use Rattle.std.specs.Prelude.{◌≡◌, cond, ◌&&◌, eqb};
 ghost use Rattle.ground.specs.Checks.{verdict};
 ghost use Rattle.words.specs.Word.{kind_of, read_at, wrapped};

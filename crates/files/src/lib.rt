@@ -1,4 +1,7 @@
 // Document 01, 'Listing program': a file's fields, when it is refused, and the table that it gives.
+
+#![tactic(auto)]
+
 ghost use Rattle.std.specs.Prelude.{◌≡◌, ◌<◌};
 ghost use Rattle.ground.specs.Checks.{verdict};
 ghost use Rattle.files.specs.File as spec;
@@ -18,20 +21,20 @@ const EXCEPTION_SIZE: usize = 7;
 const MOST_EXCEPTIONS: usize = 64;
 
 // The rack, its sender and the sender's value.
-#[derive(Drop)]
+#[derive(Clone, Copy)]
 pub struct Head {
     pub turn: Turn,
     pub x: i32,
 }
 
-#[derive(Drop)]
+#[derive(Clone, Copy)]
 pub enum Headed {
     Head(Head),
     Refused(u8),
 }
 
 // A word for a slot and a receiver.
-#[derive(Drop)]
+#[derive(Clone, Copy)]
 struct Exception {
     slot: usize,
     receiver: usize,

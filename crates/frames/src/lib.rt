@@ -1,4 +1,7 @@
 // Document 01, 'Frames': a frame read and written.
+
+#![tactic(auto)]
+
 ghost use Rattle.std.specs.Prelude.{◌≡◌, length};
 ghost use Rattle.ground.specs.Checks.{verdict};
 ghost use Rattle.ground.specs.Answer.{outcome, of_done};
@@ -19,7 +22,7 @@ const LAST_LEVEL: u8 = 3;
 const UNUSED: u8 = 255;
 
 // A frame's fields as they lie in the frame.
-#[derive(Drop)]
+#[derive(Clone, Copy)]
 pub struct Frame {
     pub exchange: u16,
     pub sender: u8,
@@ -36,7 +39,7 @@ impl Frame {
     pub const SIZE: usize = 17;
 }
 
-#[derive(Drop)]
+#[derive(Clone, Copy)]
 pub enum Parsed {
     Frame(Frame),
     Refused(u8),

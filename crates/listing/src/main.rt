@@ -1,4 +1,7 @@
 // Document 01, 'Listing program': reads one file from standard input, and prints its text. Where the input cannot be read it prints nothing. A program has no exit status: what failed stands in one line on standard error.
+
+#![tactic(auto)]
+
 ghost use Rattle.std.specs.Prelude.{◌≤◌, length};
 ghost use Rattle.listing.specs.Reading.{bytes};
 
@@ -12,7 +15,7 @@ const UNREAD: [u8; 39] = *b"listing: standard input cannot be read\n";
 const UNWRITTEN: [u8; 43] = *b"listing: standard output cannot be written\n";
 
 // What reading gave: how many bytes, or a failure. A read that a signal interrupts fails.
-#[derive(Drop)]
+#[derive(Clone, Copy)]
 enum Got {
     Bytes(usize),
     Failed,

@@ -1,4 +1,7 @@
 // What C sees: every exported function stands here and calls down. A slice is a pointer and a length, an array a pointer; an answer is 0 or a refusal number.
+
+#![tactic(auto)]
+
 ghost use Rattle.std.specs.Prelude.{◌≡◌, ◌++◌, length, drop};
 ghost use Rattle.ground.specs.Checks.{verdict};
 ghost use Rattle.ground.specs.Answer.{outcome, of_told, of_done};

@@ -1,4 +1,7 @@
 // Document 02, Q-1: the outcome, a table of ten rows of ten words, row by sender and column by card.
+
+#![tactic(auto)]
+
 ghost use Rattle.std.specs.Prelude.{◌≡◌, length};
 ghost use Rattle.ground.specs.Answer.{outcome as outcome_spec, of_done};
 ghost use Rattle.outcomes.specs.Rows.{start};

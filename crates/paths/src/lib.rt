@@ -1,4 +1,7 @@
 // Document 01, 'Settings and paths': the slots of paths, and which are live.
+
+#![tactic(auto)]
+
 ghost use Rattle.std.specs.Prelude.{◌≡◌, false, ◌<◌, length, set};
 ghost use Rattle.ground.specs.Answer.{outcome};
 ghost use Rattle.ground.specs.Lists.{table};
@@ -10,13 +13,13 @@ ghost use Rattle.paths.specs.Walk.{take_out};
 use ground::refusal;
 use settings::Settings;
 
-#[derive(Drop)]
+#[derive(Clone, Copy)]
 pub enum Place {
     Slot(usize),
     Refused(u8),
 }
 
-#[derive(Drop)]
+#[derive(Clone, Copy)]
 pub enum Liveness {
     Live(bool),
     Refused(u8),

@@ -1,5 +1,8 @@
 // Document 01, 'The book': every live vote made again from the words.
 // One walk serves both layouts: the votes stand in `list` from place `first` on; where that is 0 the words are the list `words`, else they stand before the votes.
+
+#![tactic(auto)]
+
 ghost use Rattle.std.specs.Prelude.{◌≡◌, ◌+◌, ◌<◌, length};
 ghost use Rattle.ground.specs.Answer.{outcome, of_done};
 ghost use Rattle.ground.specs.Lists.{at};

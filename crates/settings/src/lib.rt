@@ -1,4 +1,7 @@
 // Document 01, 'Settings and paths': settings, and when they are refused.
+
+#![tactic(auto)]
+
 ghost use Rattle.std.specs.Prelude.{◌≡◌};
 ghost use Rattle.ground.specs.Checks.{verdict};
 ghost use Rattle.ground.specs.Lists.{table};
@@ -8,28 +11,28 @@ ghost use Rattle.settings.specs.Asked.{of_checked, settings_asked};
 use ground::refusal;
 
 // n cards, numbered from 0, and m rounds of relay.
-#[derive(Drop)]
+#[derive(Clone, Copy)]
 pub struct Rack {
     pub n: usize,
     pub m: usize,
 }
 
 // A rack, and the sender t.
-#[derive(Drop)]
+#[derive(Clone, Copy)]
 pub struct Turn {
     pub rack: Rack,
     pub t: usize,
 }
 
 // A rack, the sender t and the own card p.
-#[derive(Drop)]
+#[derive(Clone, Copy)]
 pub struct Settings {
     pub rack: Rack,
     pub t: usize,
     pub p: usize,
 }
 
-#[derive(Drop)]
+#[derive(Clone, Copy)]
 pub enum Checked {
     Good(Settings),
     Refused(u8),

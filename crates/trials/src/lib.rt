@@ -1,4 +1,7 @@
 // Document 01, 'Listing program': the text that a listing file gives.
+
+#![tactic(auto)]
+
 ghost use Rattle.std.specs.Prelude.{◌≡◌, ◌++◌, ℕ, ◌+◌, ◌*◌, ◌≤◌, ◌<◌, length, get_or, drop};
 ghost use Rattle.ground.specs.Lists.{at as word_at};
 ghost use Rattle.text.specs.Decimal.{decimal_of};

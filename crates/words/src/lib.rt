@@ -1,4 +1,7 @@
 // Document 01, 'Words': the kinds of a word, reading, wrapping, unwrapping, and the hybrid majority.
+
+#![tactic(auto)]
+
 ghost use Rattle.std.specs.Prelude.{◌≡◌, cond, length};
 ghost use Rattle.words.specs.Word.{kind_of, read_at, wrapped, unwrapped};
 ghost use Rattle.words.specs.Majority.{kept};
@@ -9,7 +12,7 @@ ghost use Rattle.words.specs.Counted.{majority_of};
 pub const E: i32 = 1_000_000_000;
 
 // A missing word has its wraps.
-#[derive(Drop)]
+#[derive(Clone, Copy)]
 pub enum Kind {
     Ordinary,
     Missing(usize),
