@@ -1,6 +1,6 @@
 -- Laws of what a slot holds after a word, and that what a run leaves on a path is what document 02 says of its accepted words.
 use Prim.Native.Nat.{ℕ}
-use mathlib.Core.Path.{◌≡◌, refl, sym, ◌∙◌}
+use mathlib.Core.Path.{◌≡◌, refl, sym, ◌∙◌, subst}
 use mathlib.Core.Bool.{Bool, true, false, cond, true≢false, and-eq-true_iff}
 use mathlib.Core.List.{List, [], ◌∷◌}
 use lib.IntN.{ℤ}
@@ -83,5 +83,5 @@ repeated w (x ∷ xs) e = go (same w E) refl
     both = (and-eq-true_iff (same w x) (all_are w xs)).0 e
 
     go : (b : Bool) → same w E ≡ b → leaves (x ∷ xs) ≡ w
-    go true f = E-repeated (x ∷ xs) (rw (same-eq w E f) at e) ∙ sym (same-eq w E f)
+    go true f = E-repeated (x ∷ xs) (subst (λ (v : ℤ). all_are v (x ∷ xs) ≡ true) (same-eq w E f) e) ∙ sym (same-eq w E f)
     go false f = rw (sym (same-eq w x both.0), f, both.1)

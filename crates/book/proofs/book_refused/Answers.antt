@@ -1,0 +1,10 @@
+-- `book::book_refused` meets its contract: the settings' verdict, then the lists' length.
+use mathlib.Core.Path.{ap}
+use mathlib.Core.Bool.{not}
+use Rattle.ground.proofs.Verdicts.{alone, joined}
+use Rattle.settings.specs.Settings.{settings_checks}
+use Rattle.book.proofs.book_refused.Goals as goal
+
+pub returns : goal.returns
+returns c =
+    joined (settings_checks c.args.s) _ tt c.first.ensures c.settings_refused.ensures (alone 5 c.when.ensures (ap not c.is_whole.ensures))

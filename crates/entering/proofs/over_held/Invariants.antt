@@ -1,0 +1,20 @@
+use Prim.Native.Nat.{ℕ, ◌+◌, ◌-◌}
+use mathlib.Core.Path.{sym, ap, ◌∙◌, refl}
+use mathlib.Core.Logic.{⊎_elim}
+use native.Mathlib.Omega.{arith}
+use borrow.Author.Rules.{rules, sfits_of}
+use lib.Seq.{length-take-le}
+use Rattle.ground.specs.Lists.{at}
+use Rattle.ground.proofs.Bits.{back, back_is}
+use Rattle.words.specs.Rule.{omh}
+use Rattle.paths.specs.Slots.{below}
+use Rattle.paths.specs.Walk.{may}
+use Rattle.vote.proofs.Gather.{inside, Reporting, report-first, report-more, report-same, weighs, decides}
+use Rattle.entering.proofs.over_held.Given as goal
+
+abbrev pub invariant-loop-q : goal.invariant-loop-q
+invariant-loop-q l =
+    Reporting omh.struck (may l.members) (λ q. omh.read l.d (at l.votes (below l.k q))) (at l.initial.reports 0) l.q l.reports l.count
+
+abbrev pub decreases-loop-q : goal.decreases-loop-q
+decreases-loop-q l = 10 - l.q

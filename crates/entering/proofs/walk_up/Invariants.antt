@@ -1,0 +1,22 @@
+use Prim.Native.Nat.{◌<◌}
+use mathlib.Core.Path.{◌≡◌, sym, ◌∙◌}
+use mathlib.Core.Bool.{true}
+use mathlib.Core.List.{List}
+use native.Mathlib.Omega.{arith}
+use borrow.Author.Rules.{rules, sfits_of}
+use lib.IntN.{ℤ}
+use lib.ListN.{length, set}
+use Rattle.ground.proofs.Bits.{back_is}
+use Rattle.settings.specs.Settings.{slots}
+use Rattle.settings.specs.declared.Settings.{Settings}
+use Rattle.entering.specs.Remaking.{Remakes}
+use Rattle.entering.proofs.Steps.{Climbs, first-asks, climb-first, climb-asks, climb-level, climb-more, climb-done}
+use Rattle.entering.proofs.walk_up.Given as goal
+
+-- for all settings and votes for which the walk begins so
+abbrev pub invariant-loop-k : goal.invariant-loop-k
+invariant-loop-k l =
+    (s : Settings) (vs : List ℤ) → Climbs s l.words vs l.slot l.initial.votes l.initial.members l.initial.d l.initial.k l.initial.i → Climbs s l.words vs l.slot l.votes l.members l.d l.k l.i
+
+abbrev pub decreases-loop-k : goal.decreases-loop-k
+decreases-loop-k l = l.k

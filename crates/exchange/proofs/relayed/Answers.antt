@@ -1,0 +1,12 @@
+-- `exchange::relayed` meets its contract: the wrapped reading.
+use mathlib.Core.Path.{ap, ◌∙◌}
+use borrow.Author.Rules.{sfits_of}
+use Rattle.words.specs.Word.{read_at, wrapped}
+use Rattle.ground.proofs.Bits.{back_is}
+use Rattle.exchange.proofs.relayed.Goals as goal
+
+pub returns : goal.returns
+returns c =
+    back_is (sfits_of c.wrap.type_inv)
+    ∙ c.wrap.ensures
+    ∙ ap wrapped (back_is (sfits_of c.read_at.type_inv) ∙ c.read_at.ensures ∙ ap (read_at c.args.level) (back_is c.ranges.word))
