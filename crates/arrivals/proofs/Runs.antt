@@ -90,7 +90,7 @@ module _ (s : Settings) (good : verdict (settings_checks s) ≡ 0) where
   arrived-run b z [] = refl
   arrived-run b z (x ∷ xs) =
       ap (λ (c : Book). arrived s c xs) (call-steps b z x)
-      ∙ arrived-run _ (cond-case Sized (taken s x) _ _ (λ l. step-sized (rule_of s.rack) s b (entry_of x) z) (λ l. z)) xs
+      ∙ arrived-run (cond (taken s x) (step (rule_of s.rack) s b (entry_of x)) b) (cond-case Sized (taken s x) _ _ (λ l. step-sized (rule_of s.rack) s b (entry_of x) z) (λ l. z)) xs
       ∙ run_more b (entry_of x) (entries_of s xs) (taken s x)
 
   -- ---- a run of calls after `open`, on any lists of the right length

@@ -5,7 +5,7 @@
 ghost use Rattle.std.specs.Prelude.{◌≤◌, length};
 ghost use Rattle.listing.specs.Reading.{bytes};
 
-use libc::{STDERR_FILENO, STDIN_FILENO, STDOUT_FILENO};
+use std::io::{Read, Stdin};
 
 // One byte more than the longest file that is not refused: more bytes change nothing (`trials/proofs/Long.antt`).
 const ENOUGH: usize = 473;
@@ -22,26 +22,25 @@ enum Got {
 }
 
 // Reads standard input once; no bytes at its end.
-fn read_once(place: &mut [u8]) -> Got
+fn read_once(mut input: Stdin, place: &mut [u8]) -> Got
     ensures { bytes result ≤ length place.old }
 {
-    let got = libc::read(STDIN_FILENO, place);
-    if got < 0 {
-        return Got::Failed;
+    match input.read(place) {
+        Ok(count) => Got::Bytes(count),
+        Err(_) => Got::Failed,
     }
-    Got::Bytes(io::count(got, place))
 }
 
-fn skip_some() -> Got {
-    let mut rest = io::buffer();
-    read_once(&mut rest)
+fn skip_some(input: Stdin) -> Got {
+    let mut rest = [0; 4096];
+    read_once(input, &mut rest)
 }
 
 // Reads the rest of the input, so that who writes it is not cut off, and answers whether all of it could be read. A proved loop has to end, and nothing says that an input does: it counts its turns down, from a number that no run uses up.
-fn skip_rest() -> bool {
+fn skip_rest(input: Stdin) -> bool {
     let mut turns = u64::MAX;
     while turns > 0 {
-        let Got::Bytes(more) = skip_some() else {
+        let Got::Bytes(more) = skip_some(input) else {
             return false;
         };
         if more == 0 {
@@ -53,12 +52,12 @@ fn skip_rest() -> bool {
 }
 
 // Reads the input to its end, and keeps as many of its first bytes as there are places.
-fn read_input(file: &mut [u8]) -> Got
+fn read_input(input: Stdin, file: &mut [u8]) -> Got
     ensures { bytes result ≤ length file.new }
 {
     let mut many = 0;
     while many < file.len() {
-        let Got::Bytes(more) = read_once(&mut file[many..]) else {
+        let Got::Bytes(more) = read_once(input, &mut file[many..]) else {
             return Got::Failed;
         };
         if more == 0 {
@@ -66,27 +65,27 @@ fn read_input(file: &mut [u8]) -> Got
         }
         many += more;
     }
-    if skip_rest() {
+    if skip_rest(input) {
         return Got::Bytes(many);
     }
     Got::Failed
 }
 
 // Prints the text of a file.
-fn print(file: &[u8]) {
+fn print(rt: &HostRuntime, file: &[u8]) {
     let mut text = [0; trials::TEXT];
     let length = trials::list(file, &mut text);
-    if !io::write_all(STDOUT_FILENO, &text[..length]) {
-        io::write_all(STDERR_FILENO, &UNWRITTEN);
+    if rt.stdout().write_all(&text[..length]).is_err() {
+        let _ = rt.stderr().write_all(&UNWRITTEN);
     }
 }
 
-fn main() {
+fn main(rt: HostRuntime) {
     let mut file = [0; ENOUGH];
-    match read_input(&mut file) {
-        Got::Bytes(many) => print(&file[..many]),
+    match read_input(rt.stdin(), &mut file) {
+        Got::Bytes(many) => print(&rt, &file[..many]),
         Got::Failed => {
-            io::write_all(STDERR_FILENO, &UNREAD);
+            let _ = rt.stderr().write_all(&UNREAD);
         }
     }
 }

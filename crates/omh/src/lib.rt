@@ -1,4 +1,4 @@
-// What C sees: every exported function stands here and calls down. A slice is a pointer and a length, an array a pointer; an answer is 0 or a refusal number.
+// What C sees: every function that crate `omh_c` exports stands here and calls down. An answer is 0 or a refusal number.
 
 #![tactic(auto)]
 
@@ -86,29 +86,25 @@ fn place_slot(given: Place, at: &mut usize) -> u8
 
 // ---- words
 
-#[unsafe(no_mangle)]
-pub extern "C" fn omh_read_at(level: usize, word: i32) -> i32
+pub fn omh_read_at(level: usize, word: i32) -> i32
     ensures { result ≡ read_at level word }
 {
     words::read_at(level, word)
 }
 
-#[unsafe(no_mangle)]
-pub extern "C" fn omh_wrap(word: i32) -> i32
+pub fn omh_wrap(word: i32) -> i32
     ensures { result ≡ wrapped word }
 {
     words::wrap(word)
 }
 
-#[unsafe(no_mangle)]
-pub extern "C" fn omh_unwrap(word: i32) -> i32
+pub fn omh_unwrap(word: i32) -> i32
     ensures { result ≡ unwrapped word }
 {
     words::unwrap(word)
 }
 
-#[unsafe(no_mangle)]
-pub extern "C" fn omh_majority(list: &[i32]) -> i32
+pub fn omh_majority(list: &[i32]) -> i32
     ensures { result ≡ majority_by omh list.now }
 {
     words::majority(list)
@@ -117,37 +113,26 @@ pub extern "C" fn omh_majority(list: &[i32]) -> i32
 // ---- settings, paths and slots
 
 // 0 for settings that are not refused.
-#[unsafe(no_mangle)]
-pub extern "C" fn omh_settings_refused(n: usize, m: usize, t: usize, p: usize) -> u8
+pub fn omh_settings_refused(n: usize, m: usize, t: usize, p: usize) -> u8
     ensures { result ≡ verdict (settings_checks (settings n m t p)) }
 {
     settings::settings_refused(settings_of(n, m, t, p))
 }
 
-#[unsafe(no_mangle)]
-pub extern "C" fn omh_slot_of(level: usize, q1: usize, q2: usize, q3: usize, slot: &mut usize) -> u8
+pub fn omh_slot_of(level: usize, q1: usize, q2: usize, q3: usize, slot: &mut usize) -> u8
     ensures { outcome result slot.new ≡ placed (slot_asked level q1 q2 q3) slot.old }
 {
     place_slot(paths::slot_of(level, q1, q2, q3), slot)
 }
 
-#[unsafe(no_mangle)]
-pub extern "C" fn omh_slot_above(slot: usize, above: &mut usize) -> u8
+pub fn omh_slot_above(slot: usize, above: &mut usize) -> u8
     ensures { outcome result above.new ≡ placed (above_asked slot) above.old }
 {
     place_slot(paths::slot_above(slot), above)
 }
 
 // 1 in the place where the slot is live, else 0.
-#[unsafe(no_mangle)]
-pub extern "C" fn omh_is_live(
-    n: usize,
-    m: usize,
-    t: usize,
-    p: usize,
-    slot: usize,
-    live: &mut i32,
-) -> u8
+pub fn omh_is_live(n: usize, m: usize, t: usize, p: usize, slot: usize, live: &mut i32) -> u8
     ensures { outcome result live.new ≡ placed_as bit (live_asked (settings n m t p) slot) live.old }
 {
     match paths::is_live(settings_of(n, m, t, p), slot) {
@@ -161,8 +146,7 @@ pub extern "C" fn omh_is_live(
 
 // ---- the vote
 
-#[unsafe(no_mangle)]
-pub extern "C" fn omh_vote_at(
+pub fn omh_vote_at(
     n: usize,
     m: usize,
     t: usize,
@@ -178,22 +162,13 @@ pub extern "C" fn omh_vote_at(
 
 // ---- the book
 
-#[unsafe(no_mangle)]
-pub extern "C" fn omh_open(
-    n: usize,
-    m: usize,
-    t: usize,
-    p: usize,
-    words: &mut [i32],
-    votes: &mut [i32],
-) -> u8
+pub fn omh_open(n: usize, m: usize, t: usize, p: usize, words: &mut [i32], votes: &mut [i32]) -> u8
     ensures { outcome result (book_of words.new votes.new) ≡ numbered (open_asked (settings n m t p) (book_of words.old votes.old)) }
 {
     number_of(book::open(settings_of(n, m, t, p), words, votes))
 }
 
-#[unsafe(no_mangle)]
-pub extern "C" fn omh_enter(
+pub fn omh_enter(
     n: usize,
     m: usize,
     t: usize,
@@ -208,22 +183,13 @@ pub extern "C" fn omh_enter(
     number_of(entering::enter(settings_of(n, m, t, p), words, votes, slot, word))
 }
 
-#[unsafe(no_mangle)]
-pub extern "C" fn omh_refill(
-    n: usize,
-    m: usize,
-    t: usize,
-    p: usize,
-    words: &[i32],
-    votes: &mut [i32],
-) -> u8
+pub fn omh_refill(n: usize, m: usize, t: usize, p: usize, words: &[i32], votes: &mut [i32]) -> u8
     ensures { outcome result (book_of words.now votes.new) ≡ numbered (refill_asked (settings n m t p) (book_of words.now votes.old)) }
 {
     number_of(refilling::refill(settings_of(n, m, t, p), words, votes))
 }
 
-#[unsafe(no_mangle)]
-pub extern "C" fn omh_held_answer(words: &[i32], votes: &[i32], answer: &mut i32) -> u8
+pub fn omh_held_answer(words: &[i32], votes: &[i32], answer: &mut i32) -> u8
     ensures { outcome result answer.new ≡ placed (held_asked (book_of words.now votes.now)) answer.old }
 {
     place(book::held_answer(words, votes), answer)
@@ -231,15 +197,13 @@ pub extern "C" fn omh_held_answer(words: &[i32], votes: &[i32], answer: &mut i32
 
 // ---- the long list
 
-#[unsafe(no_mangle)]
-pub extern "C" fn omh_books_open(n: usize, m: usize, t: usize, p: usize, books: &mut [i32]) -> u8
+pub fn omh_books_open(n: usize, m: usize, t: usize, p: usize, books: &mut [i32]) -> u8
     ensures { outcome result books.new ≡ numbered (books_open_asked (settings n m t p) books.old) }
 {
     number_of(books::open(settings_of(n, m, t, p), books))
 }
 
-#[unsafe(no_mangle)]
-pub extern "C" fn omh_books_enter(
+pub fn omh_books_enter(
     n: usize,
     m: usize,
     t: usize,
@@ -253,8 +217,7 @@ pub extern "C" fn omh_books_enter(
     number_of(books::enter(settings_of(n, m, t, p), books, slot, word))
 }
 
-#[unsafe(no_mangle)]
-pub extern "C" fn omh_books_refill(n: usize, m: usize, t: usize, p: usize, books: &mut [i32]) -> u8
+pub fn omh_books_refill(n: usize, m: usize, t: usize, p: usize, books: &mut [i32]) -> u8
     ensures { outcome result books.new ≡ numbered (books_refill_asked (settings n m t p) books.old) }
 {
     number_of(books::refill(settings_of(n, m, t, p), books))
@@ -262,23 +225,20 @@ pub extern "C" fn omh_books_refill(n: usize, m: usize, t: usize, p: usize, books
 
 // ---- frames
 
-#[unsafe(no_mangle)]
-pub extern "C" fn omh_next_exchange(x: u16) -> u16
+pub fn omh_next_exchange(x: u16) -> u16
     ensures { result ≡ next_number x }
 {
     ages::next_exchange(x)
 }
 
-#[unsafe(no_mangle)]
-pub extern "C" fn omh_age(current: u16, frame: u16) -> u16
+pub fn omh_age(current: u16, frame: u16) -> u16
     ensures { result ≡ age_of current frame }
 {
     ages::age_of(current, frame)
 }
 
 // 0 for current, 12 for old, 13 for ahead.
-#[unsafe(no_mangle)]
-pub extern "C" fn omh_age_class(current: u16, frame: u16) -> u8
+pub fn omh_age_class(current: u16, frame: u16) -> u8
     ensures { result ≡ class_number (class_of (age_of current frame)) }
 {
     match ages::age_class(current, frame) {
@@ -307,8 +267,7 @@ fn fields_of(f: Frame) -> [i32; FIELDS]
     ]
 }
 
-#[unsafe(no_mangle)]
-pub extern "C" fn omh_read_frame(bytes: &[u8], fields: &mut [i32; FIELDS]) -> u8
+pub fn omh_read_frame(bytes: &[u8], fields: &mut [i32; FIELDS]) -> u8
     ensures { outcome result fields.new ≡ placed_as fields_of (read_asked bytes.now) fields.old }
 {
     match frames::read(bytes) {
@@ -320,8 +279,7 @@ pub extern "C" fn omh_read_frame(bytes: &[u8], fields: &mut [i32; FIELDS]) -> u8
     }
 }
 
-#[unsafe(no_mangle)]
-pub extern "C" fn omh_write_frame(
+pub fn omh_write_frame(
     exchange: u16,
     sender: u8,
     level: u8,
@@ -347,8 +305,7 @@ pub extern "C" fn omh_write_frame(
     number_of(frames::write(frame, buffer))
 }
 
-#[unsafe(no_mangle)]
-pub extern "C" fn omh_enter_frame(
+pub fn omh_enter_frame(
     n: usize,
     m: usize,
     t: usize,
@@ -363,8 +320,7 @@ pub extern "C" fn omh_enter_frame(
     number_of(arrivals::enter(settings_of(n, m, t, p), words, votes, current, frame))
 }
 
-#[unsafe(no_mangle)]
-pub extern "C" fn omh_books_enter_frame(
+pub fn omh_books_enter_frame(
     n: usize,
     m: usize,
     t: usize,
@@ -380,8 +336,7 @@ pub extern "C" fn omh_books_enter_frame(
 
 // ---- the bench
 
-#[unsafe(no_mangle)]
-pub extern "C" fn omh_word_for(
+pub fn omh_word_for(
     n: usize,
     m: usize,
     t: usize,
@@ -400,8 +355,7 @@ pub extern "C" fn omh_word_for(
     )
 }
 
-#[unsafe(no_mangle)]
-pub extern "C" fn omh_answer_for(
+pub fn omh_answer_for(
     n: usize,
     m: usize,
     t: usize,
@@ -419,8 +373,7 @@ pub extern "C" fn omh_answer_for(
     )
 }
 
-#[unsafe(no_mangle)]
-pub extern "C" fn omh_all_answers(
+pub fn omh_all_answers(
     n: usize,
     m: usize,
     t: usize,
@@ -434,8 +387,7 @@ pub extern "C" fn omh_all_answers(
     number_of(bench::all_answers(turn_of(n, m, t), x, statuses, table, answers))
 }
 
-#[unsafe(no_mangle)]
-pub extern "C" fn omh_fill(
+pub fn omh_fill(
     n: usize,
     m: usize,
     t: usize,
@@ -452,8 +404,7 @@ pub extern "C" fn omh_fill(
 }
 
 // 1 in the place where the bound holds, else 0.
-#[unsafe(no_mangle)]
-pub extern "C" fn omh_bound(n: usize, m: usize, statuses: &[u8], held: &mut i32) -> u8
+pub fn omh_bound(n: usize, m: usize, statuses: &[u8], held: &mut i32) -> u8
     ensures { outcome result held.new ≡ placed_as bit (bound_asked (rack_spec n m) statuses.now) held.old }
 {
     match bound::bound(Rack { n, m }, statuses) {
@@ -471,15 +422,13 @@ pub extern "C" fn omh_bound(n: usize, m: usize, statuses: &[u8], held: &mut i32)
 
 // ---- the outcome of exchanges
 
-#[unsafe(no_mangle)]
-pub extern "C" fn omh_outcome_start(list: &mut [i32]) -> u8
+pub fn omh_outcome_start(list: &mut [i32]) -> u8
     ensures { outcome result list.new ≡ numbered (start_asked list.old) }
 {
     number_of(outcomes::start_list(list))
 }
 
-#[unsafe(no_mangle)]
-pub extern "C" fn omh_outcome_set(
+pub fn omh_outcome_set(
     n: usize,
     m: usize,
     t: usize,
@@ -496,8 +445,7 @@ pub extern "C" fn omh_outcome_set(
 // ---- listing
 
 // Stores the text of a listing file, and answers its length.
-#[unsafe(no_mangle)]
-pub extern "C" fn omh_list(file: &[u8], text: &mut [u8; trials::TEXT]) -> usize
+pub fn omh_list(file: &[u8], text: &mut [u8; trials::TEXT]) -> usize
     ensures { (result ≡ length (text_of file.now)) × (text.new ≡ text_of file.now ++ drop (length (text_of file.now)) text.old) }
 {
     trials::list(file, text)

@@ -1,5 +1,5 @@
 -- `ages::age_class` meets its contract: each range of ages has its class.
-use Rattle.std.proofs.Common.{◌≡◌, sym, arith}
+use Rattle.std.proofs.Common.{sym, arith}
 use Rattle.ages.proofs.Ages.{is-current, is-old, is-ahead}
 use Rattle.ages.proofs.age_class.Goals as goal
 

@@ -8,20 +8,8 @@ use Rattle.text.proofs.Store.{stored}
 use Rattle.text.proofs.Sign.{plus, under, minus}
 use Rattle.text.proofs.decimal.Goals as goal
 
-pub overflow_cast-word : goal.overflow_cast-word
-overflow_cast-word c = (plus _ c.ranges.word c.if-word-ge0.true).cast
-
 pub put-requires : goal.put-requires
 put-requires c = omega (arith, length_digits 10 (nat_abs (back c.args.word)))
-
-pub overflow_sub-word : goal.overflow_sub-word
-overflow_sub-word c = (minus _ c.ranges.word c.if-word-ge0.false).sub
-
-pub overflow_cast-word-else-word-ge0 : goal.overflow_cast-word-else-word-ge0
-overflow_cast-word-else-word-ge0 c = (minus _ c.ranges.word c.if-word-ge0.false).cast
-
-pub overflow_add-word : goal.overflow_add-word
-overflow_add-word c = (minus _ c.ranges.word c.if-word-ge0.false).add
 
 pub put-requires-else-word-ge0 : goal.put-requires-else-word-ge0
 put-requires-else-word-ge0 c = omega (arith, length_digits 10 (nat_abs (back (under c.args.word)) + 1))

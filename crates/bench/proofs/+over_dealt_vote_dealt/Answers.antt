@@ -1,0 +1,188 @@
+-- `bench::vote_dealt` and `bench::over_dealt`, which call each other, meet their contracts. The measure is the rounds left: over the members it is as before, and one more.
+  -- what each is given at the measure t, and what a call of the other asks below t
+use Prim.Native.Nat.{ℕ, ◌+◌, ◌-◌, ◌<◌}
+use mathlib.Core.Path.{◌≡◌, refl, sym, ap, ◌∙◌}
+use mathlib.Core.Bool.{Bool, false, cond, ◌&&◌}
+use mathlib.Core.List.{List}
+use native.Mathlib.Omega.{arith}
+use borrow.Author.Rules.{sfits_of}
+use lib.Dec.{eqb}
+use lib.IntN.{ℤ}
+use lib.ListN.{length, get_or, length-set, set}
+use lib.Seq.{length-take-le}
+use Rattle.ground.proofs.Bits.{back, back_is}
+use Rattle.words.specs.Word.{read_at, wrapped as wrapped'}
+use Rattle.words.specs.Rule.{omh}
+use Rattle.paths.specs.Slots.{below}
+use Rattle.paths.proofs.Handed.{put_back, room-less, room_most, room_back}
+use Rattle.vote.specs.Vote.{decided}
+use Rattle.vote.proofs.Gather.{inside, report-first, report-more, report-same, weighs, decides}
+use Rattle.exchange.specs.Sending.{sent_to}
+use Rattle.exchange.proofs.Dealing.{on-good}
+use Rattle.bench.specs.Dealing.{dealt_vote, dealt_votes}
+use Rattle.bench.proofs.Dealing.{vote-last, vote-more, vote-sends}
+use Rattle.exchange.proofs.sent_on.Reads as sent-on
+use Rattle.bench.proofs.sent_to.Reads as sent-to
+use Rattle.words.proofs.read_at.Reads as read_at
+use Rattle.bench.proofs.+over_dealt_vote_dealt.Goals as goal
+use Rattle.bench.proofs.+over_dealt_vote_dealt.Goals.{over_dealt-then-members-q, over_dealt-else-members-q, over_dealt-After-sent_on-sends, over_dealt-At-loop-q, vote_dealt-After-read_at-own}
+
+pub vote_dealt-sent_to-requires : goal.vote_dealt-sent_to-requires
+vote_dealt-sent_to-requires t c = let pre = c.requires in (pre.table_long, room_most c.args.left c.args.k pre.slot, pre.card)
+
+  -- the own reading
+own : (t : ℕ) (c : vote_dealt-After-read_at-own t) → let a = c.args in back c.read_at-own.result ≡ omh.read a.d (sent_to a.status (back a.word) a.table.now a.k a.p)
+own t c =
+    back_is (sfits_of c.read_at-own.type_inv)
+    ∙ c.read_at-own.ensures
+    ∙ ap (omh.read c.args.d) (back_is (sfits_of c.sent_to.type_inv) ∙ c.sent_to.ensures)
+
+pub vote_dealt-returns-then-left-eq0 : goal.vote_dealt-returns-then-left-eq0
+vote_dealt-returns-then-left-eq0 t c =
+    let a = c.args in
+    let vote : ℤ → ℤ = dealt_vote omh a.statuses.now a.table.now a.p a.members.now a.left a.d a.k a.status in
+    (vote-last omh _ _ _ _ _ _ _ _ _ (own t (goal.at.vote_dealt-returns-then-left-eq0 t c).After-read_at-own) c.if-left-eq0.true ∙ ap vote (back_is c.ranges.word), refl)
+
+pub vote_dealt-overflow_sub-left : goal.vote_dealt-overflow_sub-left
+vote_dealt-overflow_sub-left t c = omega arith
+
+pub vote_dealt-over_dealt-requires : goal.vote_dealt-over_dealt-requires
+vote_dealt-over_dealt-requires t c =
+    let pre = c.requires in (
+      omega arith,
+      record {
+        dealing = record {
+          statuses_long = pre.statuses_long;
+          table_long = pre.table_long;
+          card = pre.card;
+          cards = pre.cards;
+          deep = omega arith;
+          slot = rw (room_back c.args.left c.if-left-eq0.false) pre.slot;
+        };
+        own_value = own t (goal.at.vote_dealt-over_dealt-requires t c).After-read_at-own;
+      },
+    )
+
+pub vote_dealt-returns : goal.vote_dealt-returns
+vote_dealt-returns t c =
+    let a = c.args in
+    let vote : ℤ → ℤ = dealt_vote omh a.statuses.now a.table.now a.p a.members.now a.left a.d a.k a.status in (
+      vote-more omh _ _ _ _ _ _ _ _ _ (own t (goal.at.vote_dealt-returns t c).After-read_at-own) c.if-left-eq0.false
+          (back_is (sfits_of c.over_dealt.type_inv) ∙ c.over_dealt.ensures.0)
+          ∙ ap vote (back_is c.ranges.word),
+      c.over_dealt.ensures.1,
+    )
+
+pub over_dealt-loop-q-init : goal.over_dealt-loop-q-init
+over_dealt-loop-q-init t c = (refl, report-first _ _ _ _ refl c.weight-count.ensures)
+
+pub over_dealt-bounds-members-q : goal.over_dealt-bounds-members-q
+over_dealt-bounds-members-q t c = c.loop-q-test.true
+
+pub over_dealt-bounds-members-q-then-members-q : goal.over_dealt-bounds-members-q-then-members-q
+over_dealt-bounds-members-q-then-members-q t c = c.loop-q-test.true
+
+pub over_dealt-bounds-statuses-q : goal.over_dealt-bounds-statuses-q
+over_dealt-bounds-statuses-q t c =
+    omega (arith, c.loop-q-test.true, c.requires.dealing.statuses_long)
+
+  -- the slot that is asked about leaves room for the longer path
+small : (t : ℕ) (c : over_dealt-At-loop-q t) → c.args.k < 1111
+small t c = room_most (c.args.left + 1) c.args.k c.requires.dealing.slot
+
+pub over_dealt-sent_to-received-requires : goal.over_dealt-sent_to-received-requires
+over_dealt-sent_to-received-requires t c =
+    let pre = c.requires.dealing in
+    (pre.table_long, small t (goal.at.over_dealt-sent_to-received-requires t c).At-loop-q, omega (arith, c.loop-q-test.true, pre.card))
+
+pub over_dealt-overflow_add-d : goal.over_dealt-overflow_add-d
+over_dealt-overflow_add-d t c = omega (arith, c.requires.dealing.deep)
+
+pub over_dealt-overflow_mul-k : goal.over_dealt-overflow_mul-k
+over_dealt-overflow_mul-k t c = omega (arith, small t (goal.at.over_dealt-overflow_mul-k t c).At-loop-q)
+
+pub over_dealt-overflow_add-k : goal.over_dealt-overflow_add-k
+over_dealt-overflow_add-k t c = omega (arith, small t (goal.at.over_dealt-overflow_add-k t c).At-loop-q)
+
+pub over_dealt-overflow_add-k-then-members-q : goal.over_dealt-overflow_add-k-then-members-q
+over_dealt-overflow_add-k-then-members-q t c = omega (arith, small t (goal.at.over_dealt-overflow_add-k-then-members-q t c).At-loop-q)
+
+pub over_dealt-vote_dealt-vote-requires : goal.over_dealt-vote_dealt-vote-requires
+over_dealt-vote_dealt-vote-requires t c =
+    let pre = c.requires.dealing in (
+      omega arith,
+      record {
+        statuses_long = pre.statuses_long;
+        table_long = pre.table_long;
+        card = pre.card;
+        cards = length-set c.loop-q.members _ _ ∙ ap length c.loop-q.invariant.0 ∙ pre.cards;
+        deep = omega (arith, pre.deep);
+        slot = room-less c.args.left c.args.k c.loop-q.q (omega (arith, pre.deep)) pre.slot c.loop-q-test.true;
+      },
+    )
+
+pub over_dealt-bounds-members-q-then-members-q-2 : goal.over_dealt-bounds-members-q-then-members-q-2
+over_dealt-bounds-members-q-then-members-q-2 t c = c.loop-q-test.true
+
+pub over_dealt-offset_bounds-reports-count : goal.over_dealt-offset_bounds-reports-count
+over_dealt-offset_bounds-reports-count t c = omega (arith, c.loop-q.invariant.1.few)
+
+pub over_dealt-bounds-reports-count : goal.over_dealt-bounds-reports-count
+over_dealt-bounds-reports-count t c = omega (arith, c.loop-q.invariant.1.few)
+
+pub over_dealt-overflow_add-count : goal.over_dealt-overflow_add-count
+over_dealt-overflow_add-count t c =
+    let so_far = c.loop-q.invariant.1 in
+    omega (arith, so_far.few, weighs (omh.struck (back c.vote_dealt-vote.result)) c.weight-count-then-members-q.ensures)
+
+pub over_dealt-overflow_step-q : goal.over_dealt-overflow_step-q
+over_dealt-overflow_step-q t c = omega arith
+
+pub over_dealt-loop-q-smaller : goal.over_dealt-loop-q-smaller
+over_dealt-loop-q-smaller t c = omega arith
+
+  -- a good card sends on what it received
+sends : (t : ℕ) (c : over_dealt-After-sent_on-sends t) → let a = c.args in let q = c.loop-q.q in get_or a.statuses.now q 0 ≡ 0 → back c.sent_on-sends.result ≡ omh.wrap (omh.read a.d (sent_to a.status (back a.word) a.table.now a.k q))
+sends t c good =
+    let a = c.args in
+    let relayed : ℤ → ℤ = λ (v : ℤ). wrapped' (read_at a.d v) in
+    let by = get_or a.statuses.now c.loop-q.q 0 in
+    back_is (sfits_of c.sent_on-sends.type_inv)
+    ∙ c.sent_on-sends.ensures
+    ∙ ap (λ (v : ℤ). cond (eqb a.status 1 && eqb by 0) (relayed v) (back c.wrap-wrapped.result)) (back_is (sfits_of c.sent_to-received.type_inv) ∙ c.sent_to-received.ensures)
+    ∙ on-good omh a.d a.status by (back a.word) _ _ _ _ (back_is (sfits_of c.wrap-wrapped.type_inv) ∙ c.wrap-wrapped.ensures ∙ ap wrapped' (back_is c.ranges.own ∙ c.requires.own_value ∙ ap (λ (w : ℤ). omh.read a.d (sent_to a.status w a.table.now a.k a.p)) (sym (back_is c.ranges.word)))) good
+
+pub over_dealt-loop-q-preserved : goal.over_dealt-loop-q-preserved
+over_dealt-loop-q-preserved t c =
+    let h = c.loop-q-test.true in
+    let a = c.args in
+    let q = c.loop-q.q in
+    let same = c.loop-q.invariant.0 in
+    elim c.if-members-q.branch [
+      | over_dealt-then-members-q w ↦ (
+          w.members-is ∙ put_back c.loop-q.members _ q w.if-members-q.true w.vote_dealt-vote.ensures.1 ∙ same,
+          report-more c.loop-q.invariant.1 h (rw (← same) w.if-members-q.true)
+              (back_is (sfits_of w.vote_dealt-vote.type_inv)
+              ∙ w.vote_dealt-vote.ensures.0
+              ∙ ap (λ (l : List Bool). dealt_vote omh a.statuses.now a.table.now a.p (set l q false) a.left (a.d + 1) (below a.k q) (get_or a.statuses.now q 0) (back w.sent_on-sends.result)) same
+              ∙ vote-sends omh _ _ _ _ _ _ _ _ ?)
+              w.reports-is (w.count-is ∙ ap (λ (x : ℕ). c.loop-q.count + x) w.weight-count-then-members-q.ensures),
+        )
+      | over_dealt-else-members-q w ↦ (w.members-is ∙ same, report-same c.loop-q.invariant.1 h (rw (← same) w.if-members-q.false) w.reports-is w.count-is)
+    ]
+
+pub over_dealt-slice_bounds-reports-end : goal.over_dealt-slice_bounds-reports-end
+over_dealt-slice_bounds-reports-end t c = inside c.loop-q.invariant.1
+
+pub over_dealt-slice_bounds-decide-end : goal.over_dealt-slice_bounds-decide-end
+over_dealt-slice_bounds-decide-end t c = sym (length-take-le _ _ (inside c.loop-q.invariant.1))
+
+pub over_dealt-returns : goal.over_dealt-returns
+over_dealt-returns t c =
+    let a = c.args in (
+      decides omh c.loop-q.invariant.1 c.loop-q-test.false
+          (back_is (sfits_of c.wrap-wrapped.type_inv) ∙ c.wrap-wrapped.ensures ∙ ap omh.wrap (back_is c.ranges.own))
+          (back_is (sfits_of c.decide.type_inv) ∙ c.decide.ensures)
+          ∙ ap (λ (w : ℤ). decided omh a.own (dealt_votes omh a.statuses.now a.table.now a.p a.members.now a.left a.d a.k a.status w 10)) (back_is c.ranges.word),
+      c.loop-q.invariant.0,
+    )

@@ -1,0 +1,17 @@
+use Prim.Native.Nat.{ℕ, ◌-◌, ◌≤◌}
+use mathlib.Core.Path.{◌≡◌, sym, ap, ap₂, ◌∙◌}
+use mathlib.Core.Bool.{Bool, ◌&&◌}
+use mathlib.Core.Logic.{⊎_elim}
+use native.Mathlib.Omega.{arith}
+use borrow.Author.Rules.{rules}
+use lib.Dec.{eqb}
+use Rattle.ground.specs.Lists.{count}
+use Rattle.ground.proofs.Lists.{count_none, count_yes, count_no}
+use Rattle.bound.proofs.Counting.{has}
+use Rattle.bound.proofs.count_of.Given as goal
+
+abbrev pub invariant-loop-q : goal.invariant-loop-q
+invariant-loop-q l = (l.q ≤ 10) × (l.found ≤ l.q) × (l.found ≡ count (has l.rack l.statuses l.status) l.q 0)
+
+abbrev pub decreases-loop-q : goal.decreases-loop-q
+decreases-loop-q l = 10 - l.q

@@ -1,0 +1,15 @@
+use Prim.Native.Nat.{ℕ, ◌-◌, ◌<◌}
+use mathlib.Core.Path.{◌≡◌, sym, ◌∙◌}
+use mathlib.Core.Bool.{false}
+use native.Mathlib.Omega.{arith}
+use borrow.Author.Count.{below_more}
+use borrow.Author.Rules.{rules}
+use Rattle.ground.proofs.Lists.{none-of, one_of}
+use Rattle.files.specs.File.{exception_bad}
+use Rattle.files.proofs.exceptions_bad.Given as goal
+
+abbrev pub invariant-loop-i : goal.invariant-loop-i
+invariant-loop-i l = (j : ℕ) → j < l.i → exception_bad l.file j ≡ false
+
+abbrev pub decreases-loop-i : goal.decreases-loop-i
+decreases-loop-i l = l.i-end - l.i

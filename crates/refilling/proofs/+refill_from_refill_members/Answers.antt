@@ -1,0 +1,149 @@
+-- `refilling::refill_from` and `refilling::refill_members`, which call each other, meet their contracts. The measure is the rounds left, as for the vote.
+use Prim.Native.Nat.{ℕ, ◌+◌, ◌-◌, ◌<◌}
+use mathlib.Core.Path.{◌≡◌, refl, sym, ap, ◌∙◌}
+use native.Mathlib.Omega.{arith}
+use borrow.Author.Rules.{sfits_of}
+use lib.ListN.{length, length-set, set}
+use lib.Seq.{length-take-le}
+use mir.Syntax.{w32}
+use mir.Val.{to_z}
+use Rattle.ground.specs.Lists.{at}
+use Rattle.ground.proofs.Bits.{back, back_is}
+use Rattle.words.specs.Rule.{omh}
+use Rattle.paths.proofs.Handed.{put_back, room_most}
+use Rattle.vote.proofs.Gather.{inside, weighs}
+use Rattle.refilling.specs.RefillOrder.{book_in, Refilling}
+use Rattle.refilling.proofs.RefillOrder.{fits, refill-reading, refill-decided, refill-long, place-first, place-long, place-asks, place-more, place_same, place-done}
+use Rattle.refilling.proofs.+refill_from_refill_members.Goals as goal
+use Rattle.refilling.proofs.+refill_from_refill_members.Goals.{refill_from-After-read_at-own, refill_from-Joined-left-eq0, refill_from-Start, refill_members-At-loop-q, refill_members-then-members-q, refill_members-else-members-q, refill_from-then-left-eq0, refill_from-else-left-eq0+then-left-eq1, refill_from-else-left-eq0+else-left-eq1}
+
+-- the slot is one of the words, and its vote has a place
+place : (t : ℕ) (c : refill_from-Start t) → let a = c.args in
+    (a.k < length (book_in a.words.now a.list.now a.first).words) × (a.first + a.k < length a.list.now)
+place t c = let a = c.args in fits a.words.now a.list.now a.first a.k c.requires
+
+pub refill_from-word_at-requires : goal.refill_from-word_at-requires
+refill_from-word_at-requires t c = (place t (goal.at.refill_from-word_at-requires t c).Start).0
+
+-- the own reading
+own : (t : ℕ) (c : refill_from-After-read_at-own t) → let a = c.args in
+    back c.read_at-own.result ≡ omh.read a.d (at (book_in a.words.now a.list.now a.first).words a.k)
+own t c =
+    let word = c.word_at in
+    back_is (sfits_of c.read_at-own.type_inv) ∙ c.read_at-own.ensures ∙ ap (omh.read _) (back_is (sfits_of word.type_inv) ∙ word.ensures)
+
+pub refill_from-refill_last-requires : goal.refill_from-refill_last-requires
+refill_from-refill_last-requires t c =
+    let e : c.args.left ≡ 1 = c.if-left-eq1.true in
+    rw e at c.requires
+
+pub refill_from-overflow_sub-left : goal.refill_from-overflow_sub-left
+refill_from-overflow_sub-left t c = omega arith
+
+pub refill_from-refill_members-requires : goal.refill_from-refill_members-requires
+refill_from-refill_members-requires t c =
+    let e : c.args.left - 1 + 1 ≡ c.args.left = omega (arith, c.if-left-eq0.false) in
+    (omega arith, rw e c.requires)
+
+-- the vote, in its place after those of the longer paths
+found : (t : ℕ) (c : refill_from-Joined-left-eq0 t) → let a = c.args in
+    Refilling omh (book_in a.words.now a.list.now a.first) a.members.now a.left a.d a.k (to_z w32 c.if-left-eq0.vote-bits) (book_in a.words.now (set c.if-left-eq0.list (a.first + a.k) (to_z w32 c.if-left-eq0.vote-bits)) a.first)
+    × (c.if-left-eq0.members ≡ a.members.now)
+found t c =
+    let a = c.args in
+    let left = a.left in
+    let words = a.words.now in
+    let list = a.list.now in
+    elim c.if-left-eq0.branch [
+      | refill_from-then-left-eq0 w ↦
+          (refill-reading omh words list a.first _ left _ _ w.if-left-eq0.true w.list-is (w.vote-is ∙ own t c.before), w.members-is)
+      | refill_from-else-left-eq0+then-left-eq1 w ↦
+          (refill-decided omh words list a.first _ left _ _ w.if-left-eq0.false w.list-is (omega (arith, w.if-left-eq1.true)) (own t c.before) w.refill_last.ensures (w.vote-is ∙ back_is (sfits_of w.refill_last.type_inv)), w.members-is)
+      | refill_from-else-left-eq0+else-left-eq1 w ↦
+          let f = w.refill_members.ensures in
+          (refill-decided omh words list a.first _ left _ _ w.if-left-eq0.false w.list-is refl (own t c.before) f.refilling_below (w.vote-is ∙ back_is (sfits_of w.refill_members.type_inv)), w.members-is ∙ f.members_unchanged)
+    ]
+
+pub refill_from-shape_of-list : goal.refill_from-shape_of-list
+refill_from-shape_of-list t c =
+    let a = c.args in
+    refill-long omh a.words.now a.list.now a.first _ _ _ _ c.requires (set c.if-left-eq0.list (a.first + a.k) _) (found t (goal.at.refill_from-shape_of-list t c).Joined-left-eq0).0
+
+pub refill_from-overflow_add-vote : goal.refill_from-overflow_add-vote
+refill_from-overflow_add-vote t c = omega (arith, (place t (goal.at.refill_from-overflow_add-vote t c).Start).1)
+
+pub refill_from-offset_bounds-list-first : goal.refill_from-offset_bounds-list-first
+refill_from-offset_bounds-list-first t c = omega (arith, (place t (goal.at.refill_from-offset_bounds-list-first t c).Start).1)
+
+pub refill_from-bounds-list-first : goal.refill_from-bounds-list-first
+refill_from-bounds-list-first t c = omega (arith, (place t (goal.at.refill_from-bounds-list-first t c).Start).1, sym (length-set c.if-left-eq0.list _ _) ∙ refill_from-shape_of-list t c)
+
+pub refill_from-returns : goal.refill_from-returns
+refill_from-returns t c = let h = found t (goal.at.refill_from-returns t c).Joined-left-eq0 in record { refilling = h.0; members_unchanged = h.1 }
+
+pub refill_members-loop-q-init : goal.refill_members-loop-q-init
+refill_members-loop-q-init t c = (refl, place-first omh _ _ _ _ _ _ _ _ refl c.weight-count.ensures)
+
+pub refill_members-overflow_add-d : goal.refill_members-overflow_add-d
+refill_members-overflow_add-d t c = omega arith
+
+-- the slot that is asked about leaves room for the longer path
+small : (t : ℕ) (c : refill_members-At-loop-q t) → c.args.k < 1111
+small t c = room_most (c.args.left + 1) c.args.k c.requires.asked.slot
+
+pub refill_members-overflow_mul-k : goal.refill_members-overflow_mul-k
+refill_members-overflow_mul-k t c = omega (arith, small t (goal.at.refill_members-overflow_mul-k t c).At-loop-q)
+
+pub refill_members-overflow_add-k : goal.refill_members-overflow_add-k
+refill_members-overflow_add-k t c = omega (arith, small t (goal.at.refill_members-overflow_add-k t c).At-loop-q)
+
+pub refill_members-overflow_add-k-then-members-q : goal.refill_members-overflow_add-k-then-members-q
+refill_members-overflow_add-k-then-members-q t c = omega (arith, small t (goal.at.refill_members-overflow_add-k-then-members-q t c).At-loop-q)
+
+pub refill_members-refill_from-vote-requires : goal.refill_members-refill_from-vote-requires
+refill_members-refill_from-vote-requires t c =
+    (omega arith, place-asks c.loop-q.invariant.1 c.requires c.loop-q-test.true c.loop-q.invariant.0)
+
+pub refill_members-offset_bounds-reports-count : goal.refill_members-offset_bounds-reports-count
+refill_members-offset_bounds-reports-count t c = omega arith
+
+pub refill_members-bounds-reports-count : goal.refill_members-bounds-reports-count
+refill_members-bounds-reports-count t c = omega arith
+
+pub refill_members-overflow_add-count : goal.refill_members-overflow_add-count
+refill_members-overflow_add-count t c = omega (arith, weighs (omh.struck (back c.refill_from-vote.result)) c.weight-count-then-members-q.ensures)
+
+pub refill_members-overflow_step-q : goal.refill_members-overflow_step-q
+refill_members-overflow_step-q t c = omega arith
+
+pub refill_members-loop-q-smaller : goal.refill_members-loop-q-smaller
+refill_members-loop-q-smaller t c = omega arith
+
+pub refill_members-loop-q-preserved : goal.refill_members-loop-q-preserved
+refill_members-loop-q-preserved t c =
+    let loop = c.loop-q in
+    let h = c.loop-q-test.true in
+    let same = loop.invariant.0 in
+    elim c.if-members-q.branch [
+      | refill_members-then-members-q w ↦ (
+        w.members-is ∙ put_back loop.members _ loop.q w.if-members-q.true w.refill_from-vote.ensures.members_unchanged ∙ same,
+        place-more loop.invariant.1 h same w.if-members-q.true w.list-is w.refill_from-vote.ensures.refilling (back_is (sfits_of w.refill_from-vote.type_inv)) w.reports-is (w.count-is ∙ ap (λ (x : ℕ). loop.count + x) w.weight-count-then-members-q.ensures),
+      )
+      | refill_members-else-members-q w ↦ (w.members-is ∙ same, place_same loop.invariant.1 h same w.if-members-q.false w.list-is w.reports-is w.count-is)
+    ]
+
+pub refill_members-slice_bounds-reports-end : goal.refill_members-slice_bounds-reports-end
+refill_members-slice_bounds-reports-end t c = inside c.loop-q.invariant.1.reported
+
+pub refill_members-slice_bounds-decide-end : goal.refill_members-slice_bounds-decide-end
+refill_members-slice_bounds-decide-end t c = sym (length-take-le _ _ (inside c.loop-q.invariant.1.reported))
+
+pub refill_members-shape_of-list : goal.refill_members-shape_of-list
+refill_members-shape_of-list t c = place-long c.loop-q.invariant.1 c.requires
+
+pub refill_members-returns : goal.refill_members-returns
+refill_members-returns t c =
+    record {
+      refilling_below = place-done c.loop-q.invariant.1 c.loop-q-test.false (back_is (sfits_of c.wrap-wrapped.type_inv) ∙ c.wrap-wrapped.ensures ∙ ap omh.wrap (back_is c.ranges.own)) (back_is (sfits_of c.decide.type_inv) ∙ c.decide.ensures);
+      members_unchanged = c.loop-q.invariant.0;
+    }

@@ -1,0 +1,19 @@
+use Prim.Native.Nat.{◌+◌, ◌-◌, ◌*◌}
+use mathlib.Core.Path.{◌≡◌}
+use Rattle.ground.specs.Lists.{at}
+use Rattle.words.specs.Rule.{omh}
+use Rattle.refilling.proofs.RefillOrder.{Placing}
+use Rattle.refilling.proofs.+refill_from_refill_members.Given as goal
+
+abbrev pub decreases-refill_from : goal.decreases-refill_from
+decreases-refill_from l = 2 * l.left
+
+abbrev pub decreases-refill_members : goal.decreases-refill_members
+decreases-refill_members l = 2 * l.left + 1
+
+abbrev pub invariant-refill_members-loop-q : goal.invariant-refill_members-loop-q
+invariant-refill_members-loop-q l =
+    (l.members ≡ l.initial.members) × Placing omh l.words l.initial.list l.first l.initial.members l.left l.d l.k (at l.initial.reports 0) l.q l.list l.reports l.count
+
+abbrev pub decreases-refill_members-loop-q : goal.decreases-refill_members-loop-q
+decreases-refill_members-loop-q l = 10 - l.q

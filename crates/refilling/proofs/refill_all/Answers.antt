@@ -1,0 +1,45 @@
+-- `refilling::refill_all` meets its contract: from slot 0, with all its members and rounds, every live vote is put in.
+use Prim.Native.Nat.{ℕ}
+use mathlib.Core.Path.{◌≡◌, ap, ap₂, ◌∙◌}
+use mathlib.Core.Bool.{Bool}
+use mathlib.Core.List.{List}
+use native.Mathlib.Omega.{arith}
+use lib.ListN.{length}
+use Rattle.ground.proofs.Lists.{length-table}
+use Rattle.paths.specs.Slots.{members_of}
+use Rattle.paths.specs.Walk.{put_in}
+use Rattle.paths.proofs.Members.{first-members}
+use Rattle.paths.proofs.Handed.{left-few, room-zero}
+use Rattle.vote.specs.Members.{member_vote}
+use Rattle.vote.specs.Vote.{rule_of}
+use Rattle.book.specs.Book.{book_of}
+use Rattle.refilling.specs.RefillOrder.{book_in}
+use Rattle.refilling.proofs.Refilled.{put-votes}
+use Rattle.refilling.proofs.refill_all.Goals as goal
+use Rattle.refilling.proofs.refill_all.Goals.{After-may_relay-members}
+
+-- the members of the path at slot 0
+top : (c : After-may_relay-members) → c.may_relay-members.result ≡ members_of c.args.s 0
+top c = c.may_relay-members.ensures ∙ first-members c.args.s
+
+pub refill_from-requires : goal.refill_from-requires
+refill_from-requires c =
+    record {
+      asked = record {
+        whole = c.requires.whole.words_long;
+        cards = ap length (top (goal.at.refill_from-requires c).After-may_relay-members) ∙ length-table 10 0 _;
+        deep = omega (arith, c.rounds_left-left.ensures, left-few c.args.s 0, c.requires.few);
+        slot = room-zero c.rounds_left-left.result;
+      };
+      votes_whole = c.requires.whole.votes_long;
+    }
+
+pub returns : goal.returns
+returns c =
+    let a = c.args in
+    let R = rule_of a.s.rack in
+    let b = book_in a.words.now a.list.now a.first in
+    c.refill_from.ensures.refilling.book
+    ∙ ap (book_of b.words)
+    (ap₂ (λ (l : List Bool) (r : ℕ). put_in (member_vote R b.words) l r 0 0 b.votes) (top (goal.at.returns c).After-may_relay-members) c.rounds_left-left.ensures
+    ∙ put-votes R a.s b.words b.votes c.requires.few c.requires.whole.votes_long)

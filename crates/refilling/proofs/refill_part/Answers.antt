@@ -1,0 +1,18 @@
+-- `refilling::refill_part` meets its contract: the verdict decides.
+use mathlib.Core.Path.{sym, ◌∙◌}
+use Rattle.ground.proofs.Answers.{outcome-refused, outcome-done}
+use Rattle.book.specs.Book.{halves}
+use Rattle.refilling.proofs.Refilled.{refill-asked}
+use Rattle.refilling.proofs.refill_part.Goals as goal
+
+pub returns-then-no-ne0 : goal.returns-then-no-ne0
+returns-then-no-ne0 c = outcome-refused c.part_refused-no.ensures c.if-no-ne0.true _ _
+
+pub refill_all-requires : goal.refill_all-requires
+refill_all-requires c =
+    let a = c.args in
+    refill-asked a.s (halves a.part.now) (sym c.part_refused-no.ensures ∙ c.if-no-ne0.false)
+
+pub returns : goal.returns
+returns c =
+    outcome-done c.part_refused-no.ensures c.if-no-ne0.false _ c.refill_all.ensures
