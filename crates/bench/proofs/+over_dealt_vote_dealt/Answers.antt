@@ -1,5 +1,5 @@
 -- `bench::vote_dealt` and `bench::over_dealt`, which call each other, meet their contracts. The measure is the rounds left: over the members it is as before, and one more.
-  -- what each is given at the measure t, and what a call of the other asks below t
+-- what each is given at the measure t, and what a call of the other asks below t
 use Prim.Native.Nat.{ℕ, ◌+◌, ◌-◌, ◌<◌}
 use mathlib.Core.Path.{◌≡◌, refl, sym, ap, ◌∙◌}
 use mathlib.Core.Bool.{Bool, false, cond, ◌&&◌}
@@ -25,12 +25,12 @@ use Rattle.exchange.proofs.sent_on.Reads as sent-on
 use Rattle.bench.proofs.sent_to.Reads as sent-to
 use Rattle.words.proofs.read_at.Reads as read_at
 use Rattle.bench.proofs.+over_dealt_vote_dealt.Goals as goal
-use Rattle.bench.proofs.+over_dealt_vote_dealt.Goals.{over_dealt-then-members-q, over_dealt-else-members-q, over_dealt-After-sent_on-sends, over_dealt-At-loop-q, vote_dealt-After-read_at-own}
+use Rattle.bench.proofs.+over_dealt_vote_dealt.Goals.{over_dealt-then-members-q, over_dealt-else-members-q, over_dealt-At-loop-q, vote_dealt-After-read_at-own}
 
 pub vote_dealt-sent_to-requires : goal.vote_dealt-sent_to-requires
 vote_dealt-sent_to-requires t c = let pre = c.requires in (pre.table_long, room_most c.args.left c.args.k pre.slot, pre.card)
+    -- the own reading
 
-  -- the own reading
 own : (t : ℕ) (c : vote_dealt-After-read_at-own t) → let a = c.args in back c.read_at-own.result ≡ omh.read a.d (sent_to a.status (back a.word) a.table.now a.k a.p)
 own t c =
     back_is (sfits_of c.read_at-own.type_inv)
@@ -50,17 +50,17 @@ pub vote_dealt-over_dealt-requires : goal.vote_dealt-over_dealt-requires
 vote_dealt-over_dealt-requires t c =
     let pre = c.requires in (
       omega arith,
-      record {
-        dealing = record {
+      (
+        record {
           statuses_long = pre.statuses_long;
           table_long = pre.table_long;
           card = pre.card;
           cards = pre.cards;
           deep = omega arith;
           slot = rw (room_back c.args.left c.if-left-eq0.false) pre.slot;
-        };
-        own_value = own t (goal.at.vote_dealt-over_dealt-requires t c).After-read_at-own;
-      },
+        },
+        own t (goal.at.vote_dealt-over_dealt-requires t c).After-read_at-own,
+      ),
     )
 
 pub vote_dealt-returns : goal.vote_dealt-returns
@@ -85,8 +85,8 @@ over_dealt-bounds-members-q-then-members-q t c = c.loop-q-test.true
 pub over_dealt-bounds-statuses-q : goal.over_dealt-bounds-statuses-q
 over_dealt-bounds-statuses-q t c =
     omega (arith, c.loop-q-test.true, c.requires.dealing.statuses_long)
+    -- the slot that is asked about leaves room for the longer path
 
-  -- the slot that is asked about leaves room for the longer path
 small : (t : ℕ) (c : over_dealt-At-loop-q t) → c.args.k < 1111
 small t c = room_most (c.args.left + 1) c.args.k c.requires.dealing.slot
 
@@ -140,16 +140,13 @@ over_dealt-overflow_step-q t c = omega arith
 
 pub over_dealt-loop-q-smaller : goal.over_dealt-loop-q-smaller
 over_dealt-loop-q-smaller t c = omega arith
+    -- a good card sends on what it received
 
-  -- a good card sends on what it received
-sends : (t : ℕ) (c : over_dealt-After-sent_on-sends t) → let a = c.args in let q = c.loop-q.q in get_or a.statuses.now q 0 ≡ 0 → back c.sent_on-sends.result ≡ omh.wrap (omh.read a.d (sent_to a.status (back a.word) a.table.now a.k q))
-sends t c good =
+sends : (t : ℕ) (c : over_dealt-At-loop-q t) {heard : ℤ} → let a = c.args in let q = c.loop-q.q in let by = get_or a.statuses.now q 0 in heard ≡ sent_to a.status (back a.word) a.table.now a.k q → by ≡ 0 → cond (eqb a.status 1 && eqb by 0) (wrapped' (read_at a.d heard)) (back c.wrap-wrapped.result) ≡ omh.wrap (omh.read a.d (sent_to a.status (back a.word) a.table.now a.k q))
+sends t c e good =
     let a = c.args in
-    let relayed : ℤ → ℤ = λ (v : ℤ). wrapped' (read_at a.d v) in
     let by = get_or a.statuses.now c.loop-q.q 0 in
-    back_is (sfits_of c.sent_on-sends.type_inv)
-    ∙ c.sent_on-sends.ensures
-    ∙ ap (λ (v : ℤ). cond (eqb a.status 1 && eqb by 0) (relayed v) (back c.wrap-wrapped.result)) (back_is (sfits_of c.sent_to-received.type_inv) ∙ c.sent_to-received.ensures)
+    ap (λ (v : ℤ). cond (eqb a.status 1 && eqb by 0) (wrapped' (read_at a.d v)) (back c.wrap-wrapped.result)) e
     ∙ on-good omh a.d a.status by (back a.word) _ _ _ _ (back_is (sfits_of c.wrap-wrapped.type_inv) ∙ c.wrap-wrapped.ensures ∙ ap wrapped' (back_is c.ranges.own ∙ c.requires.own_value ∙ ap (λ (w : ℤ). omh.read a.d (sent_to a.status w a.table.now a.k a.p)) (sym (back_is c.ranges.word)))) good
 
 pub over_dealt-loop-q-preserved : goal.over_dealt-loop-q-preserved
@@ -160,14 +157,17 @@ over_dealt-loop-q-preserved t c =
     let same = c.loop-q.invariant.0 in
     elim c.if-members-q.branch [
       | over_dealt-then-members-q w ↦ (
-          w.members-is ∙ put_back c.loop-q.members _ q w.if-members-q.true w.vote_dealt-vote.ensures.1 ∙ same,
-          report-more c.loop-q.invariant.1 h (rw (← same) w.if-members-q.true)
-              (back_is (sfits_of w.vote_dealt-vote.type_inv)
-              ∙ w.vote_dealt-vote.ensures.0
-              ∙ ap (λ (l : List Bool). dealt_vote omh a.statuses.now a.table.now a.p (set l q false) a.left (a.d + 1) (below a.k q) (get_or a.statuses.now q 0) (back w.sent_on-sends.result)) same
-              ∙ vote-sends omh _ _ _ _ _ _ _ _ ?)
-              w.reports-is (w.count-is ∙ ap (λ (x : ℕ). c.loop-q.count + x) w.weight-count-then-members-q.ensures),
-        )
+        w.members-is ∙ put_back c.loop-q.members _ q w.if-members-q.true w.vote_dealt-vote.ensures.1 ∙ same,
+        report-more c.loop-q.invariant.1 h (rw (← same) w.if-members-q.true)
+            (back_is (sfits_of w.vote_dealt-vote.type_inv)
+            ∙ w.vote_dealt-vote.ensures.0
+            ∙ ap (λ (l : List Bool). dealt_vote omh a.statuses.now a.table.now a.p (set l q false) a.left (a.d + 1) (below a.k q) (get_or a.statuses.now q 0) (back w.sent_on-sends.result)) same
+            ∙ vote-sends omh _ _ _ _ _ _ _ _ (λ good.
+            back_is (sfits_of w.sent_on-sends.type_inv)
+            ∙ w.sent_on-sends.ensures
+            ∙ sends t (goal.at.over_dealt-loop-q-preserved t c).At-loop-q (back_is (sfits_of w.sent_to-received.type_inv) ∙ w.sent_to-received.ensures) good))
+            w.reports-is (w.count-is ∙ ap (λ (x : ℕ). c.loop-q.count + x) w.weight-count-then-members-q.ensures),
+      )
       | over_dealt-else-members-q w ↦ (w.members-is ∙ same, report-same c.loop-q.invariant.1 h (rw (← same) w.if-members-q.false) w.reports-is w.count-is)
     ]
 

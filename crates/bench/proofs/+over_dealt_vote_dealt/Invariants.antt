@@ -42,7 +42,7 @@ decreases-vote_dealt l = 2 * l.left
 
 abbrev pub invariant-over_dealt-loop-q : goal.invariant-over_dealt-loop-q
 invariant-over_dealt-loop-q l =
-      (l.members ≡ l.initial.members) × Reporting omh.struck (may l.initial.members) (λ q. dealt_vote omh l.statuses l.table l.p (set l.initial.members q false) l.left (l.d + 1) (below l.k q) (get_or l.statuses q 0) (omh.wrap (omh.read l.d (sent_to l.status l.word l.table l.k q)))) (at l.initial.reports 0) l.q l.reports l.count
+    (l.members ≡ l.initial.members) × Reporting omh.struck (may l.initial.members) (λ q. dealt_vote omh l.statuses l.table l.p (set l.initial.members q false) l.left (l.d + 1) (below l.k q) (get_or l.statuses q 0) (omh.wrap (omh.read l.d (sent_to l.status l.word l.table l.k q)))) (at l.initial.reports 0) l.q l.reports l.count
 
 abbrev pub decreases-over_dealt-loop-q : goal.decreases-over_dealt-loop-q
 decreases-over_dealt-loop-q l = 10 - l.q
