@@ -7,7 +7,7 @@ file=$PWD/examples/document.omx
 kit=$scratch/kit/bin
 mkdir -p "$kit"
 cp tools/tests/rt "$kit"
-ln -s "$(dirname "$(dirname "$(readlink -f "$(command -v rt)")")")/on" "$scratch/kit"
+ln -s "$(dirname "$(dirname "$(readlink -f "$(command -v rt)")")")/toolchain" "$scratch/kit"
 cp target/bin/listing "$kit/program"
 cp target/staticlib/libomh.a "$kit/archive"
 rt version >"$kit/version"
@@ -33,13 +33,13 @@ run 'closed descriptors' 0 '' '' '' closed
 
 # A copy that cannot be written. Root could, so there it is nobody who runs it.
 mkdir "$scratch/sealed"
-cp -R --parents crates crates.txt tools target/bin target/made "$scratch/sealed"
+tar -c --exclude='crates/*/out' crates crates.txt tools target/bin target/made | tar -x -C "$scratch/sealed"
 chmod -R a-w "$scratch/sealed"
 nobody=()
 [ "$(id -u)" -ne 0 ] || nobody=(setpriv --reuid=65534 --regid=65534 --clear-groups)
 run 'the sealed tree is sealed' 1 '' '' '' "${nobody[@]}" test -w "$scratch/sealed/target/made/listing"
 run 'a listing in a tree that cannot be written' 0 "$listed" '' '' "${nobody[@]}" "$scratch/sealed/tools/program" listing
-run 'something to prove in a tree that cannot be written' 2 '' '*/tools/archive: omh has to be proved, and target/ cannot be written' '' \
+run 'something to prove in a tree that cannot be written' 2 '' '*/tools/archive: omh_c has to be proved, and target/ cannot be written' '' \
     "${nobody[@]}" "$scratch/sealed/tools/archive"
 
 # ---- a small tree
@@ -47,17 +47,17 @@ run 'something to prove in a tree that cannot be written' 2 '' '*/tools/archive:
 tree=$scratch/tree
 mkdir "$tree"
 cp -R tools "$tree"
-for crate in low middle aside listing omh; do
+for crate in low middle aside listing omh_c; do
     mkdir -p "$tree/crates/$crate/src" "$tree/crates/$crate/must-fail"
     touch "$tree/crates/$crate/src/main.rt"
 done
-printf '%s\n' '# in any order' 'listing: middle io' 'aside: low' 'middle: low' 'omh: middle' 'low:' >"$tree/crates.txt"
+printf '%s\n' '# in any order' 'listing: middle anyhow' 'aside: low' 'middle: low' 'omh_c staticlib: middle' 'low:' >"$tree/crates.txt"
 program=("$tree/tools/program" listing)
 archive=("$tree/tools/archive")
 change() { echo '// more' >>"$tree/crates/$1/src/main.rt"; } # CRATE
 
 run 'a first run' 0 "$listed" $'proving low (1 of 3): [0-9] s\nproving middle (2 of 3): [0-9] s\nproving listing (3 of 3): [0-9] s' \
-    'check low;check middle;check listing;' "${program[@]}"
+    'lib low;lib middle;run listing --cpu=x86-64;' "${program[@]}"
 run 'nothing changed' 0 "$listed" '' '' "${program[@]}"
 touch "$tree"/crates/*/src/main.rt
 run 'times changed' 0 "$listed" '' '' "${program[@]}"
@@ -66,34 +66,34 @@ echo more >"$tree/crates/low/must-fail/one.edit"
 run 'what it does not rest on changed' 0 "$listed" '' '' "${program[@]}"
 mkdir "$tree/crates/middle/proofs"
 echo more >"$tree/crates/middle/proofs/Law.antt"
-run 'a file more' 0 "$listed" $'proving middle (1 of 2): [0-9] s\nproving listing (2 of 2): [0-9] s' 'check middle;check listing;' "${program[@]}"
+run 'a file more' 0 "$listed" $'proving middle (1 of 2): [0-9] s\nproving listing (2 of 2): [0-9] s' 'lib middle;run listing --cpu=x86-64;' "${program[@]}"
 rm "$tree/crates/middle/proofs/Law.antt"
-run 'a file less' 0 "$listed" 'proving middle *' 'check middle;check listing;' "${program[@]}"
+run 'a file less' 0 "$listed" 'proving middle *' 'lib middle;run listing --cpu=x86-64;' "${program[@]}"
 echo '# more' >>"$tree/crates.txt"
-run 'crates.txt changed' 0 "$listed" 'proving low *' 'check low;check middle;check listing;' "${program[@]}"
+run 'crates.txt changed' 0 "$listed" 'proving low *' 'lib low;lib middle;run listing --cpu=x86-64;' "${program[@]}"
 echo another >"$kit/version"
-run 'another toolchain' 0 "$listed" 'proving low *' 'check low;check middle;check listing;' "${program[@]}"
+run 'another toolchain' 0 "$listed" 'proving low *' 'lib low;lib middle;run listing --cpu=x86-64;' "${program[@]}"
 rm -r "$tree/target/made"
 touch "$kit/unchanged"
 run 'what rt has proved already' 0 "$listed" $'proving low (1 of 3): unchanged\nproving middle (2 of 3): unchanged\nproving listing (3 of 3): unchanged' \
-    'check low;check middle;check listing;' "${program[@]}"
+    'lib low;lib middle;run listing --cpu=x86-64;' "${program[@]}"
 rm "$kit/unchanged"
 echo more >>"$tree/target/bin/listing"
-run 'another program in its place' 0 "$listed" 'proving listing (1 of 1): [0-9] s' 'check listing;' "${program[@]}"
+run 'another program in its place' 0 "$listed" 'proving listing (1 of 1): [0-9] s' 'run listing --cpu=x86-64;' "${program[@]}"
 
-run 'an archive' 0 '' 'proving omh (1 of 1): [0-9] s' 'staticlib omh;' "${archive[@]}"
+run 'an archive' 0 '' 'proving omh_c (1 of 1): [0-9] s' 'lib omh_c --cpu=x86-64;' "${archive[@]}"
 run 'an archive, nothing changed' 0 '' '' '' "${archive[@]}"
 echo more >>"$tree/target/staticlib/libomh.a"
-run 'another archive in its place' 0 '' 'proving omh *' 'staticlib omh;' "${archive[@]}"
+run 'another archive in its place' 0 '' 'proving omh_c *' 'lib omh_c --cpu=x86-64;' "${archive[@]}"
 run 'the archive' 0 '' '' '' cmp "$kit/archive" "$tree/target/staticlib/libomh.a"
 
 change middle
 echo middle >"$kit/refused"
 for turn in first second; do
-    run "a crate that is not proved, the $turn time" 1 '' $'proving middle (1 of 2): FAILED\nrt: middle NOT PROVED' 'check middle;' "${program[@]}"
+    run "a crate that is not proved, the $turn time" 1 '' $'proving middle (1 of 2): FAILED\nrt: middle NOT PROVED' 'lib middle;' "${program[@]}"
 done
 : >"$kit/refused"
-run 'a crate that is proved now' 0 "$listed" 'proving middle *' 'check middle;check listing;' "${program[@]}"
+run 'a crate that is proved now' 0 "$listed" 'proving middle *' 'lib middle;run listing --cpu=x86-64;' "${program[@]}"
 
 for words in '' 'a b' '--build'; do
     run "program with the words '$words'" 2 '' 'usage: tools/program \[--build\] NAME' '' "${program[0]}" $words
@@ -144,12 +144,12 @@ together() { # NAME OUTPUT CALL COMMAND..
     equal "$name, calls of rt" "$call" "$(<"$kit/calls")"
 }
 change listing
-together 'two listings at once' "${listed%?}" 'check listing' "${program[@]}"
-change omh
-together 'two archives at once' '' 'staticlib omh' "${archive[@]}"
+together 'two listings at once' "${listed%?}" 'run listing --cpu=x86-64' "${program[@]}"
+change omh_c
+together 'two archives at once' '' 'lib omh_c --cpu=x86-64' "${archive[@]}"
 
 # The gate holds the same lock while rt removes target/ and proves everything.
-equal 'the gate holds the lock' 'part proofs flock . rt ci' "$(grep 'rt ci' .ci/run)"
+equal 'the gate holds the lock' 'flock . rt ci' "$(grep -o '[a-z]* [^ ]* rt ci\b' .ci/run | grep -v '^then\|^and' | head -n 1)"
 touch "$kit/hold"
 flock "$tree" sh -c 'echo held >"$0/gate"; while [ -e "$0/kit/bin/hold" ]; do sleep 0.05; done' "$scratch" &
 comes "$scratch/gate" held
@@ -176,11 +176,11 @@ change listing
 : >"$kit/calls"
 touch "$kit/hold"
 start one "${program[@]}"
-comes "$kit/calls" check
+comes "$kit/calls" run
 change listing
 rm "$kit/hold"
 ends 'a change meanwhile' "0 ${listed%?}" $! one
-run 'after a change meanwhile' 0 "$listed" 'proving listing *' 'check listing;' "${program[@]}"
+run 'after a change meanwhile' 0 "$listed" 'proving listing *' 'run listing --cpu=x86-64;' "${program[@]}"
 
 # An interrupted run stops what it started, leaves no lock and nothing temporary, and what it began to write is not trusted, though the sources are as before.
 mkdir "$scratch/tmp"
@@ -189,7 +189,7 @@ change listing
 : >"$kit/calls"
 touch "$kit/hold"
 TMPDIR=$scratch/tmp start one "${program[@]}"
-comes "$kit/calls" check
+comes "$kit/calls" run
 kill $!
 ends 'an interrupted run' '1 ' $! one
 equal 'an interrupted run, what it says' 'proving listing (1 of 1): interrupted' "$(<"$scratch/one-said")"
@@ -198,7 +198,7 @@ equal 'an interrupted run leaves nothing temporary' '' "$(ls "$scratch/tmp")"
 rm "$kit/hold"
 rmdir "$kit/busy"
 cp "$scratch/before" "$tree/crates/listing/src/main.rt"
-run 'after an interrupted run' 0 "$listed" 'proving listing (1 of 1): [0-9] s' 'check listing;' "${program[@]}"
+run 'after an interrupted run' 0 "$listed" 'proving listing (1 of 1): [0-9] s' 'run listing --cpu=x86-64;' "${program[@]}"
 
 # Without flock what is made runs, and nothing else is tried.
 mkdir "$scratch/few"

@@ -1,5 +1,4 @@
 -- `bench::vote_dealt` and `bench::over_dealt`, which call each other, meet their contracts. The measure is the rounds left: over the members it is as before, and one more.
--- what each is given at the measure t, and what a call of the other asks below t
 use Prim.Native.Nat.{ℕ, ◌+◌, ◌-◌, ◌<◌}
 use mathlib.Core.Path.{◌≡◌, refl, sym, ap, ◌∙◌}
 use mathlib.Core.Bool.{Bool, false, cond, ◌&&◌}

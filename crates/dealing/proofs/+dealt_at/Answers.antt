@@ -1,5 +1,4 @@
 -- `dealing::dealt_at` meets its contract: slot 0 from the sender, any other from the last relay. The measure is the slot.
-  -- what `dealt_at` is given at the measure j, and what a call of it asks below j
 use Prim.Native.Nat.{ℕ, ◌+◌, ◌*◌}
 use mathlib.Core.Path.{◌≡◌, refl, ap, ap₂, ◌∙◌}
 use native.Mathlib.Omega.{arith}
@@ -41,52 +40,41 @@ bounds-table-k-2 t c = let pre = c.requires in omega (arith, pre.0.table_long, p
 pub bounds-statuses-t : goal.bounds-statuses-t
 bounds-statuses-t t c = let given = c.requires.0 in omega (arith, given.sender, given.statuses_long)
 
-  -- the table's two words are those of the definition
+-- the table's two words are those of the definition
 from-table : (t : ℕ) (c : After-first-1 t) (status : ℕ) {v w : ℤ} → v ≡ w → let a = c.args in sent (status_of status) v (back (at a.table.now (10 * a.k + a.p))) (back (at a.table.now (10 * a.k))) ≡ sent_to status w a.table.now a.k a.p
 from-table t c status e =
     let a = c.args in
     sent-as status e (back_is (sfits_of c.own-1.given)) (back_is (sfits_of c.first-1.given) ∙ at_first a.table.now a.k)
 
--- ODD
-returns c rack =
-    let zero = c.before.before in
-    let read = zero.before in
-    let start = read.before.before.before in
-    let a = start.args in
-    dealt-first omh (exchange (record { rack = rack; t = a.t }) a.x a.statuses.now a.table.now) a.k a.p zero.if1.true refl
-    (back_is (sfits_of c.sent-by.type_inv) ∙ c.sent-by.ensures ∙ from-table read _ (back_is start.ranges.x))
+pub returns-then-k-eq0 : goal.returns-then-k-eq0
+returns-then-k-eq0 t c rack =
+    let a = c.args in
+    dealt-first omh (exchange (record { rack = rack; t = a.t }) a.x a.statuses.now a.table.now) a.k a.p c.if-k-eq0.true refl
+    (back_is (sfits_of c.sent_by.type_inv) ∙ c.sent_by.ensures ∙ from-table t (goal.at.returns-then-k-eq0 t c).After-first-1 _ (back_is c.ranges.x))
 
 pub dealt_at-word-requires : goal.dealt_at-word-requires
 dealt_at-word-requires t c =
     let pre = c.requires in
     let up = c.above-above.ensures in
-    (omega (arith, up, c.if-k-eq0.false), (pre.1.0, omega (arith, up, pre.1.1), omega (arith, c.last_relay-q.ensures)))
+    (omega (arith, up, c.if-k-eq0.false), (pre.0, omega (arith, up, pre.1), omega (arith, c.last_relay-q.ensures)))
 
 pub bounds-statuses-q : goal.bounds-statuses-q
 bounds-statuses-q t c =
     omega (arith, c.last_relay-q.ensures, c.requires.0.statuses_long)
 
--- ODD
-returns-2 c rack =
-    let relay = c.before.before in
-    let level = relay.before in
-    let word = level.before in
-    let up = word.before in
-    let last = up.before in
-    let other = last.before in
-    let read = other.before in
-    let start = read.before.before.before in
-    let a = start.args in
+pub returns : goal.returns
+returns t c rack =
+    let a = c.args in
     let X : ℤ → Exchange = λ x. exchange (record { rack = rack; t = a.t }) x a.statuses.now a.table.now in
-    dealt-next omh (X a.x) a.k a.p (omega (arith, other.if1.false)) start.requires.1.1
-    (back_is (sfits_of relay.relayed.type_inv)
-    ∙ relay.relayed.ensures
-    ∙ ap wrapped (ap₂ read_at (level.level-of.ensures ∙ ap level' up.above.ensures)
-    (back_is (sfits_of word.dealt-at.type_inv)
-    ∙ word.dealt-at.ensures rack
-    ∙ ap (λ (x : ℤ). dealt omh (X x) up.above.result last.last-relay.result) (back_is start.ranges.x)
-    ∙ ap₂ (dealt omh (X a.x)) up.above.ensures last.last-relay.ensures)))
-    (back_is (sfits_of c.sent-by2.type_inv)
-    ∙ c.sent-by2.ensures
-    ∙ from-table read _ refl
-    ∙ ap (λ (q : ℕ). sent_to (get_or a.statuses.now q 0) (back relay.relayed.result) a.table.now a.k a.p) last.last-relay.ensures)
+    dealt-next omh (X a.x) a.k a.p (omega (arith, c.if-k-eq0.false)) c.requires.1
+    (back_is (sfits_of c.relayed-sends.type_inv)
+    ∙ c.relayed-sends.ensures
+    ∙ ap wrapped (ap₂ read_at (c.level_of.ensures ∙ ap level' c.above-above.ensures)
+    (back_is (sfits_of c.dealt_at-word.type_inv)
+    ∙ c.dealt_at-word.ensures rack
+    ∙ ap (λ (x : ℤ). dealt omh (X x) c.above-above.result c.last_relay-q.result) (back_is c.ranges.x)
+    ∙ ap₂ (dealt omh (X a.x)) c.above-above.ensures c.last_relay-q.ensures)))
+    (back_is (sfits_of c.sent_by-2.type_inv)
+    ∙ c.sent_by-2.ensures
+    ∙ from-table t (goal.at.returns t c).After-first-1 _ refl
+    ∙ ap (λ (q : ℕ). sent_to (get_or a.statuses.now q 0) (back c.relayed-sends.result) a.table.now a.k a.p) c.last_relay-q.ensures)

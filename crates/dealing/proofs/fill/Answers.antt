@@ -32,7 +32,6 @@ deal-requires c =
 
 pub returns : goal.returns
 returns c =
-    let start = c.before.before in
     let a = c.args in
     c.refill.ensures
     ∙ filling a.s a.x a.statuses.now a.table.now (book_of a.words.now a.votes.now) (sym (told (goal.at.returns c).After-card_refused-no) ∙ c.if-no-ne0.false)
