@@ -45,7 +45,7 @@ uninstall: ## removes what install wrote below PREFIX
 	@! [ -d '$(TO)/libexec/omh' ] || rmdir --ignore-fail-on-non-empty '$(TO)/libexec/omh'
 
 clean: ## removes all that was proved and built here
-	rm -rf target host/build second/target
+	rm -rf target host/build second/target crates/*/out
 
 help: ## prints this list
 	@sed -n 's/^\([a-z]*\):.*## /\1	/p' Makefile | expand -t 12

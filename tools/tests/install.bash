@@ -82,8 +82,8 @@ says 'a PREFIX that is no full path' "*PREFIX is the full path of a folder, not 
 targets=$(sed -n 's/^\.PHONY: //p' Makefile | tr ' ' '\n')
 equal 'make help has every target' "$targets" "$(make -s help | sed -n 's/^\([a-z]*\)  *[a-z].*/\1/p')"
 equal 'every target is declared' "$targets" "$(sed -n 's/^\([a-z]*\):.*/\1/p' Makefile)"
-mkdir -p "$scratch"/clean/{target,host/build,second/target,crates}
+mkdir -p "$scratch"/clean/{target,host/build,second/target,crates/low/out}
 cp Makefile "$scratch/clean"
-touch "$scratch"/clean/{target,host,host/build,second,second/target,crates}/file
+touch "$scratch"/clean/{target,host,host/build,second,second/target,crates/low,crates/low/out}/file
 gives 'make clean' 0 '' make -s -C "$scratch/clean" clean
-equal 'what make clean leaves' $'Makefile\ncrates/file\nhost/file\nsecond/file' "$(files "$scratch/clean")"
+equal 'what make clean leaves' $'Makefile\ncrates/low/file\nhost/file\nsecond/file' "$(files "$scratch/clean")"

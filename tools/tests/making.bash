@@ -33,7 +33,7 @@ run 'closed descriptors' 0 '' '' '' closed
 
 # A copy that cannot be written. Root could, so there it is nobody who runs it.
 mkdir "$scratch/sealed"
-tar -c --exclude='crates/*/out' crates crates.txt tools target/bin target/made | tar -x -C "$scratch/sealed"
+find crates crates.txt tools target/bin target/made -path 'crates/*/out' -prune -o -type f -exec cp --parents -t "$scratch/sealed" {} +
 chmod -R a-w "$scratch/sealed"
 nobody=()
 [ "$(id -u)" -ne 0 ] || nobody=(setpriv --reuid=65534 --regid=65534 --clear-groups)
@@ -61,6 +61,8 @@ run 'a first run' 0 "$listed" $'proving low (1 of 3): [0-9] s\nproving middle (2
 run 'nothing changed' 0 "$listed" '' '' "${program[@]}"
 touch "$tree"/crates/*/src/main.rt
 run 'times changed' 0 "$listed" '' '' "${program[@]}"
+rm -r "$tree"/crates/*/out
+run 'what rt made removed, as by the gate' 0 "$listed" '' '' "${program[@]}"
 change aside
 echo more >"$tree/crates/low/must-fail/one.edit"
 run 'what it does not rest on changed' 0 "$listed" '' '' "${program[@]}"
@@ -86,6 +88,21 @@ run 'an archive, nothing changed' 0 '' '' '' "${archive[@]}"
 echo more >>"$tree/target/staticlib/libomh.a"
 run 'another archive in its place' 0 '' 'proving omh_c *' 'lib omh_c --cpu=x86-64;' "${archive[@]}"
 run 'the archive' 0 '' '' '' cmp "$kit/archive" "$tree/target/staticlib/libomh.a"
+
+# On Arm a card's archive is made too, by the same proof; a program runs only under an emulator.
+cp -R "$tree" "$scratch/arm"
+mkdir "$scratch/machine"
+printf '%s\n' '#!/bin/sh' 'echo aarch64' >"$scratch/machine/uname"
+chmod +x "$scratch/machine/uname"
+arm() { PATH=$scratch/machine:$PATH "$scratch/arm/tools/$1" "${@:2}"; }
+run 'an archive on Arm' 0 '' $'proving low *\nproving omh_c (3 of 3): [0-9] s\nproving omh_c (for aarch64): [0-9] s' \
+    'lib low;lib middle;lib omh_c --cpu=x86-64;lib omh_c --target aarch64-unknown-linux-gnu;' arm archive
+run "a card's archive on Arm" 0 '' '' '' cmp "$kit/archive" "$scratch/arm/target/card/libomh.a"
+run 'an archive on Arm, nothing changed' 0 '' '' '' arm archive
+if [ ! -x "$scratch/kit/toolchain/bin/qemu-x86_64" ]; then
+    run 'a listing on Arm, with no emulator' 2 '' $'proving listing *\ntools/run: on aarch64 a program runs under the Rattle toolchain\'s emulator, and this toolchain has none' \
+        'run listing --cpu=x86-64;' arm program listing
+fi
 
 change middle
 echo middle >"$kit/refused"
@@ -148,8 +165,8 @@ together 'two listings at once' "${listed%?}" 'run listing --cpu=x86-64' "${prog
 change omh_c
 together 'two archives at once' '' 'lib omh_c --cpu=x86-64' "${archive[@]}"
 
-# The gate holds the same lock while rt removes target/ and proves everything.
-equal 'the gate holds the lock' 'flock . rt ci' "$(grep -o '[a-z]* [^ ]* rt ci\b' .ci/run | grep -v '^then\|^and' | head -n 1)"
+# The gate holds the same lock while rt removes what is in out/ and proves everything.
+equal 'the gate holds the lock' '    flock . rt ci' "$(grep -o '^ *\(flock \. \)\?rt ci' .ci/run)"
 touch "$kit/hold"
 flock "$tree" sh -c 'echo held >"$0/gate"; while [ -e "$0/kit/bin/hold" ]; do sleep 0.05; done' "$scratch" &
 comes "$scratch/gate" held
@@ -182,7 +199,7 @@ rm "$kit/hold"
 ends 'a change meanwhile' "0 ${listed%?}" $! one
 run 'after a change meanwhile' 0 "$listed" 'proving listing *' 'run listing --cpu=x86-64;' "${program[@]}"
 
-# An interrupted run stops what it started, leaves no lock and nothing temporary, and what it began to write is not trusted, though the sources are as before.
+# An interrupted run stops what it started, leaves no lock and nothing temporary, and what was made before is as it was; what it was to make is made by the next.
 mkdir "$scratch/tmp"
 cp "$tree/crates/listing/src/main.rt" "$scratch/before"
 change listing
@@ -197,7 +214,10 @@ gives 'an interrupted run leaves no lock' 0 '' flock -w 3 "$tree" true
 equal 'an interrupted run leaves nothing temporary' '' "$(ls "$scratch/tmp")"
 rm "$kit/hold"
 rmdir "$kit/busy"
+cp "$tree/crates/listing/src/main.rt" "$scratch/after"
 cp "$scratch/before" "$tree/crates/listing/src/main.rt"
+run 'after an interrupted run, the sources as before' 0 "$listed" '' '' "${program[@]}"
+cp "$scratch/after" "$tree/crates/listing/src/main.rt"
 run 'after an interrupted run' 0 "$listed" 'proving listing (1 of 1): [0-9] s' 'run listing --cpu=x86-64;' "${program[@]}"
 
 # Without flock what is made runs, and nothing else is tried.

@@ -1,5 +1,4 @@
 -- `book::clear` meets its contract: the places before `i` hold E.
-use Prim.Native.Nat.{◌-◌}
 use mathlib.Core.Path.{refl, sym, ◌∙◌}
 use native.Mathlib.Omega.{arith}
 use lib.IntN.{pos}

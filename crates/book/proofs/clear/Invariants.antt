@@ -1,12 +1,8 @@
 use Prim.Native.Nat.{ℕ, ◌-◌, ◌≤◌, ◌<◌}
-use mathlib.Core.Path.{◌≡◌, refl, sym, ◌∙◌}
-use native.Mathlib.Omega.{arith}
-use borrow.Author.Rules.{rules}
+use mathlib.Core.Path.{◌≡◌}
 use lib.IntN.{pos}
-use lib.ListN.{length, get_or, replicate, length-set, length-replicate, get_or-replicate}
-use lib.Seq.{ext_get_or}
+use lib.ListN.{length, get_or}
 use Rattle.words.specs.Word.{E}
-use Rattle.ground.proofs.Lists.{set_next}
 use Rattle.book.proofs.clear.Given as goal
 
 abbrev pub invariant-loop-i : goal.invariant-loop-i

@@ -1,5 +1,4 @@
 -- `exchange::statuses_bad` meets its contract: no status byte before `q` is bad.
-use Prim.Native.Nat.{◌-◌}
 use mathlib.Core.Path.{sym, ◌∙◌}
 use native.Mathlib.Omega.{arith}
 use borrow.Author.Count.{below_more}

@@ -1,6 +1,5 @@
 -- `frames::bytes_of` meets its contract: each byte stands at its place.
 use mathlib.Core.Path.{◌≡◌, ap, ◌∙◌}
-use borrow.Author.Rules.{rules}
 use Rattle.ground.proofs.Bits.{back_is}
 use Rattle.ground.specs.Bytes.{bits32, bytes16, bytes32}
 use Rattle.frames.specs.Frame.{bytes_of}

@@ -1,5 +1,4 @@
 -- `frames::put` meets its contract: the places before `i` hold their bytes.
-use Prim.Native.Nat.{◌-◌}
 use mathlib.Core.Path.{refl, sym, ap, ◌∙◌}
 use native.Mathlib.Omega.{arith}
 use lib.ListN.{length, length-set}

@@ -1,11 +1,6 @@
 use Prim.Native.Nat.{ℕ, ◌-◌, ◌≤◌, ◌<◌}
-use mathlib.Core.Path.{◌≡◌, refl, sym, ap, ◌∙◌}
-use native.Mathlib.Omega.{arith}
-use lib.ListN.{length, get_or, length-set}
-use lib.Seq.{ext_get_or}
-use borrow.Author.Rules.{rules}
-use Rattle.ground.proofs.Lists.{set_next}
-use Rattle.frames.proofs.Round.{length-bytes}
+use mathlib.Core.Path.{◌≡◌}
+use lib.ListN.{length, get_or}
 use Rattle.frames.proofs.put.Given as goal
 
 abbrev pub invariant-loop-i : goal.invariant-loop-i

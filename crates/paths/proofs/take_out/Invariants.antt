@@ -1,10 +1,4 @@
-use mathlib.Core.Path.{refl, sym, ap, ◌∙◌}
-use native.Mathlib.Omega.{arith}
-use borrow.Author.Rules.{rules}
-use borrow.Author.Tests.{not-true, not-false}
-use lib.ListN.{get_or-eq_default}
-use Rattle.paths.specs.Walk.{may}
-use Rattle.paths.proofs.Members.{Taking, take_more, take-gone, take_done}
+use Rattle.paths.proofs.Members.{Taking}
 use Rattle.paths.proofs.take_out.Given as goal
 
 abbrev pub invariant-loop-k : goal.invariant-loop-k

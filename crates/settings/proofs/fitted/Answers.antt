@@ -23,7 +23,6 @@ loop-q-init c = (refl, omega arith, omega (arith, begins c), λ i h. absurd (ome
 pub overflow_add-found : goal.overflow_add-found
 overflow_add-found c = omega arith
 
-
 pub bounds-found-q : goal.bounds-found-q
 bounds-found-q c = omega arith
 

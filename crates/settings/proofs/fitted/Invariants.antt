@@ -1,12 +1,8 @@
 use Prim.Native.Nat.{ℕ, ◌+◌, ◌-◌, ◌≤◌, ◌<◌}
-use mathlib.Core.Path.{◌≡◌, refl, ◌∙◌}
+use mathlib.Core.Path.{◌≡◌}
 use mathlib.Core.Bool.{false}
-use mathlib.Core.Logic.{⊎_elim}
-use native.Mathlib.Omega.{arith}
-use borrow.Author.Rules.{rules}
-use lib.ListN.{length, get_or, length-set}
-use Rattle.ground.proofs.Lists.{is-table, set_next}
-use Rattle.settings.proofs.Twenty.{ten, fitted-at}
+use lib.ListN.{length, get_or}
+use Rattle.settings.proofs.Twenty.{ten}
 use Rattle.settings.proofs.fitted.Given as goal
 
 abbrev pub invariant-loop-q : goal.invariant-loop-q

@@ -1,5 +1,5 @@
 -- `vote::instance` and `vote::over_members`, which call each other, meet their contracts. The measure is the rounds left: over the members it is as before, and one more.
-  -- what each is given at the measure t, and what a call of the other asks below t
+-- what each is given at the measure t, and what a call of the other asks below t
 use Prim.Native.Nat.{ℕ, ◌+◌, ◌-◌, ◌<◌}
 use mathlib.Core.Path.{◌≡◌, refl, sym, ap, ◌∙◌}
 use mathlib.Core.Bool.{Bool, false}
@@ -25,8 +25,8 @@ instance-offset_bounds-words-k t c = omega (arith, room_most c.args.left c.args.
 
 pub instance-bounds-words-k : goal.instance-bounds-words-k
 instance-bounds-words-k t c = omega (arith, c.requires.whole, room_most c.args.left c.args.k c.requires.slot)
+    -- the own reading
 
-  -- the own reading
 own : (t : ℕ) (c : instance-After-read_at-own t) → let a = c.args in back c.read_at-own.result ≡ omh.read a.d (at a.words.now a.k)
 own t c = back_is (sfits_of c.read_at-own.type_inv) ∙ c.read_at-own.ensures ∙ ap (omh.read _) (back_is (sfits_of c.read_at-arg-1.given))
 
@@ -64,8 +64,8 @@ over_members-bounds-members-q-then-members-q t c = c.loop-q-test.true
 
 pub over_members-overflow_add-d : goal.over_members-overflow_add-d
 over_members-overflow_add-d t c = omega (arith, c.requires.deep)
+    -- the slot that is asked about leaves room for the longer path
 
-  -- the slot that is asked about leaves room for the longer path
 small : (t : ℕ) (c : over_members-At-loop-q t) → c.args.k < 1111
 small t c = room_most (c.args.left + 1) c.args.k c.requires.slot
 
@@ -116,11 +116,11 @@ over_members-loop-q-preserved t c =
     let same = c.loop-q.invariant.0 in
     elim c.if-members-q.branch [
       | over_members-then-members-q w ↦ (
-          w.members-is ∙ put_back c.loop-q.members _ q w.if-members-q.true w.instance-vote.ensures.1 ∙ same,
-          report-more c.loop-q.invariant.1 h (rw (← same) w.if-members-q.true)
-              (back_is (sfits_of w.instance-vote.type_inv) ∙ w.instance-vote.ensures.0 ∙ ap (λ (l : List Bool). member_vote omh a.words.now (set l q false) a.left (a.d + 1) (below a.k q)) same)
-              w.reports-is (w.count-is ∙ ap (λ (x : ℕ). c.loop-q.count + x) w.weight-count-then-members-q.ensures),
-        )
+        w.members-is ∙ put_back c.loop-q.members _ q w.if-members-q.true w.instance-vote.ensures.1 ∙ same,
+        report-more c.loop-q.invariant.1 h (rw (← same) w.if-members-q.true)
+            (back_is (sfits_of w.instance-vote.type_inv) ∙ w.instance-vote.ensures.0 ∙ ap (λ (l : List Bool). member_vote omh a.words.now (set l q false) a.left (a.d + 1) (below a.k q)) same)
+            w.reports-is (w.count-is ∙ ap (λ (x : ℕ). c.loop-q.count + x) w.weight-count-then-members-q.ensures),
+      )
       | over_members-else-members-q w ↦ (w.members-is ∙ same, report-same c.loop-q.invariant.1 h (rw (← same) w.if-members-q.false) w.reports-is w.count-is)
     ]
 
@@ -131,10 +131,9 @@ pub over_members-slice_bounds-decide-end : goal.over_members-slice_bounds-decide
 over_members-slice_bounds-decide-end t c = sym (length-take-le _ _ (inside c.loop-q.invariant.1))
 
 pub over_members-returns : goal.over_members-returns
-over_members-returns t c =
-    (
-      decides omh c.loop-q.invariant.1 c.loop-q-test.false
-          (back_is (sfits_of c.wrap-wrapped.type_inv) ∙ c.wrap-wrapped.ensures ∙ ap omh.wrap (back_is c.ranges.own))
-          (back_is (sfits_of c.decide.type_inv) ∙ c.decide.ensures),
-      c.loop-q.invariant.0,
-    )
+over_members-returns t c = (
+  decides omh c.loop-q.invariant.1 c.loop-q-test.false
+      (back_is (sfits_of c.wrap-wrapped.type_inv) ∙ c.wrap-wrapped.ensures ∙ ap omh.wrap (back_is c.ranges.own))
+      (back_is (sfits_of c.decide.type_inv) ∙ c.decide.ensures),
+  c.loop-q.invariant.0,
+)
