@@ -1,0 +1,9 @@
+-- `omh::place_slot` meets its contract.
+use mathlib.Core.Path.{sym, ap}
+use Rattle.paths.specs.Asked.{of_place}
+use Rattle.paths.specs.declared.Place.{Place}
+use Rattle.omh.specs.Numbers.{placed}
+use Rattle.omh.proofs.place_slot.Goals as goal
+
+pub returns-in-Refused : goal.returns-in-Refused
+returns-in-Refused c = let a = c.args in ap (λ (d : Place). placed (of_place d) a.at.now) (sym c.in-Refused.is)
