@@ -22,7 +22,7 @@ use Rattle.paths.proofs.Handed.{room-less, room-zero, left-few, down-first}
 use Rattle.vote.specs.Vote.{decided, vote}
 use Rattle.vote.specs.Members.{member_vote}
 use Rattle.vote.proofs.Handed.{own-vote, handed-vote}
-use Rattle.exchange.specs.Exchange.{Exchange, exchange, status_of, sent, dealt_at, dealt, received, answer_of}
+use Rattle.exchange.specs.Exchange.{Exchange, exchange, status_of, sent, received, answer_of}
 use Rattle.exchange.proofs.Dealing.{sends-first, sends-below, at-received}
 use Rattle.exchange.specs.Sending.{sent_to, Sends}
 use Rattle.bench.specs.Dealing.{dealt_vote, dealt_votes}

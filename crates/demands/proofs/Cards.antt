@@ -40,7 +40,7 @@ use Rattle.bench.specs.Asked.{answers_of, answer_checks, answer_for_asked, answe
 use Rattle.dealing.specs.Asked.{fill_asked}
 use Rattle.dealing.proofs.Filling.{filled-held}
 use Rattle.bound.specs.Bound.{bound_asked}
-use Rattle.bound.proofs.Says.{enough_says, bounded-says}
+use Rattle.bound.proofs.Says.{bounded-says}
 use Rattle.agreement.proofs.Demand2.{n, m, a, s, c, GoodCard, Demand2, demand-2}
 
 -- the settings of card p

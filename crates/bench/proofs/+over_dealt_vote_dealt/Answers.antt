@@ -1,5 +1,5 @@
 -- `bench::vote_dealt` and `bench::over_dealt`, which call each other, meet their contracts. The measure is the rounds left: over the members it is as before, and one more.
-use Prim.Native.Nat.{ℕ, ◌+◌, ◌-◌, ◌<◌}
+use Prim.Native.Nat.{ℕ, ◌+◌, ◌<◌}
 use mathlib.Core.Path.{◌≡◌, refl, sym, ap, ◌∙◌}
 use mathlib.Core.Bool.{Bool, false, cond, ◌&&◌}
 use mathlib.Core.List.{List}
@@ -20,9 +20,6 @@ use Rattle.exchange.specs.Sending.{sent_to}
 use Rattle.exchange.proofs.Dealing.{on-good}
 use Rattle.bench.specs.Dealing.{dealt_vote, dealt_votes}
 use Rattle.bench.proofs.Dealing.{vote-last, vote-more, vote-sends}
-use Rattle.exchange.proofs.sent_on.Reads as sent-on
-use Rattle.bench.proofs.sent_to.Reads as sent-to
-use Rattle.words.proofs.read_at.Reads as read_at
 use Rattle.bench.proofs.+over_dealt_vote_dealt.Goals as goal
 use Rattle.bench.proofs.+over_dealt_vote_dealt.Goals.{over_dealt-then-members-q, over_dealt-else-members-q, over_dealt-At-loop-q, vote_dealt-After-read_at-own}
 

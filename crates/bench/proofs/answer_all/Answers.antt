@@ -1,19 +1,13 @@
 -- `bench::answer_all` meets its contract: the places before `p` hold their cards' answers.
-use Prim.Native.Nat.{ℕ, ◌-◌}
 use mathlib.Core.Path.{sym, ap, ◌∙◌}
-use mathlib.Core.Bool.{cond}
-use mathlib.Core.List.{List}
 use native.Mathlib.Omega.{arith}
 use borrow.Author.Rules.{sfits_of}
 use lib.IntN.{ℤ}
-use Rattle.ground.specs.Lists.{at}
 use Rattle.ground.proofs.Bits.{back_is}
 use Rattle.ground.proofs.Bools.{chosen-yes, chosen-no}
 use Rattle.ground.proofs.Lists.{passed_none, passed-set, passed-same, passed-all}
-use Rattle.settings.specs.Settings.{fits}
-use Rattle.settings.specs.declared.Turn.{Turn}
 use Rattle.vote.specs.Vote.{rule_of}
-use Rattle.exchange.specs.Exchange.{exchange, answer_of}
+use Rattle.exchange.specs.Exchange.{exchange}
 use Rattle.bench.specs.Asked.{answers_of}
 use Rattle.bench.proofs.answer_all.Goals as goal
 use Rattle.bench.proofs.answer_all.Goals.{then-fits, else-fits}

@@ -1,22 +1,13 @@
 use Prim.Native.Nat.{ℕ, ◌-◌}
-use mathlib.Core.Path.{sym, ap, ◌∙◌}
 use mathlib.Core.Bool.{cond}
 use mathlib.Core.List.{List}
-use mathlib.Core.Logic.{⊎_elim}
-use native.Mathlib.Omega.{arith}
-use borrow.Author.Rules.{rules, sfits_of}
-use mir.Syntax.{w32}
-use mir.Val.{to_z}
 use lib.IntN.{ℤ}
 use Rattle.ground.specs.Lists.{at}
-use Rattle.ground.proofs.Bits.{back_is}
-use Rattle.ground.proofs.Bools.{chosen-yes, chosen-no}
-use Rattle.ground.proofs.Lists.{Passed, passed_none, passed-set, passed-same, passed-all}
+use Rattle.ground.proofs.Lists.{Passed}
 use Rattle.settings.specs.Settings.{fits}
 use Rattle.settings.specs.declared.Turn.{Turn}
 use Rattle.vote.specs.Vote.{rule_of}
 use Rattle.exchange.specs.Exchange.{exchange, answer_of}
-use Rattle.bench.specs.Asked.{answers_of}
 use Rattle.bench.proofs.answer_all.Given as goal
 
 -- what place p holds at the end

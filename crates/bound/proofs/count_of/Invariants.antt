@@ -1,12 +1,6 @@
-use Prim.Native.Nat.{ℕ, ◌-◌, ◌≤◌}
-use mathlib.Core.Path.{◌≡◌, sym, ap, ap₂, ◌∙◌}
-use mathlib.Core.Bool.{Bool, ◌&&◌}
-use mathlib.Core.Logic.{⊎_elim}
-use native.Mathlib.Omega.{arith}
-use borrow.Author.Rules.{rules}
-use lib.Dec.{eqb}
+use Prim.Native.Nat.{◌-◌, ◌≤◌}
+use mathlib.Core.Path.{◌≡◌}
 use Rattle.ground.specs.Lists.{count}
-use Rattle.ground.proofs.Lists.{count_none, count_yes, count_no}
 use Rattle.bound.proofs.Counting.{has}
 use Rattle.bound.proofs.count_of.Given as goal
 

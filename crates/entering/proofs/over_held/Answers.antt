@@ -1,5 +1,5 @@
 -- `entering::over_held` meets its contract: the held votes of the members so far stand after the own report, and all of them decide.
-use Prim.Native.Nat.{ℕ, ◌+◌, ◌-◌}
+use Prim.Native.Nat.{ℕ, ◌+◌}
 use mathlib.Core.Path.{sym, ap, ◌∙◌, refl}
 use native.Mathlib.Omega.{arith}
 use borrow.Author.Rules.{sfits_of}

@@ -1,15 +1,9 @@
-use Prim.Native.Nat.{ℕ, ◌+◌, ◌-◌}
-use mathlib.Core.Path.{sym, ap, ◌∙◌, refl}
-use mathlib.Core.Logic.{⊎_elim}
-use native.Mathlib.Omega.{arith}
-use borrow.Author.Rules.{rules, sfits_of}
-use lib.Seq.{length-take-le}
+use Prim.Native.Nat.{◌-◌}
 use Rattle.ground.specs.Lists.{at}
-use Rattle.ground.proofs.Bits.{back, back_is}
 use Rattle.words.specs.Rule.{omh}
 use Rattle.paths.specs.Slots.{below}
 use Rattle.paths.specs.Walk.{may}
-use Rattle.vote.proofs.Gather.{inside, Reporting, report-first, report-more, report-same, weighs, decides}
+use Rattle.vote.proofs.Gather.{Reporting}
 use Rattle.entering.proofs.over_held.Given as goal
 
 abbrev pub invariant-loop-q : goal.invariant-loop-q

@@ -1,16 +1,7 @@
-use Prim.Native.Nat.{◌<◌}
-use mathlib.Core.Path.{◌≡◌, sym, ◌∙◌}
-use mathlib.Core.Bool.{true}
 use mathlib.Core.List.{List}
-use native.Mathlib.Omega.{arith}
-use borrow.Author.Rules.{rules, sfits_of}
 use lib.IntN.{ℤ}
-use lib.ListN.{length, set}
-use Rattle.ground.proofs.Bits.{back_is}
-use Rattle.settings.specs.Settings.{slots}
 use Rattle.settings.specs.declared.Settings.{Settings}
-use Rattle.entering.specs.Remaking.{Remakes}
-use Rattle.entering.proofs.Steps.{Climbs, first-asks, climb-first, climb-asks, climb-level, climb-more, climb-done}
+use Rattle.entering.proofs.Steps.{Climbs}
 use Rattle.entering.proofs.walk_up.Given as goal
 
 -- for all settings and votes for which the walk begins so

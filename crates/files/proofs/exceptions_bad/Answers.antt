@@ -1,5 +1,4 @@
 -- `files::exceptions_bad` meets its contract: no exception before `i` is bad.
-use Prim.Native.Nat.{◌-◌}
 use mathlib.Core.Path.{sym, ◌∙◌}
 use native.Mathlib.Omega.{arith}
 use borrow.Author.Count.{below_more}

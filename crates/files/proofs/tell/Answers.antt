@@ -1,5 +1,4 @@
 -- `files::tell` meets its contract: the first `i` exceptions are told.
-use Prim.Native.Nat.{◌-◌}
 use mathlib.Core.Path.{◌≡◌, refl, ap, ◌∙◌}
 use native.Mathlib.Numerals.{add-one}
 use native.Mathlib.Omega.{arith}

@@ -1,11 +1,6 @@
 use Prim.Native.Nat.{◌-◌, ◌≤◌}
-use mathlib.Core.Path.{◌≡◌, refl, ap, ◌∙◌}
-use native.Mathlib.Numerals.{add-one}
-use native.Mathlib.Omega.{arith}
-use borrow.Author.Rules.{rules}
-use lib.ListN.{length}
-use Rattle.files.specs.File.{exceptions, told_one, told}
-use Rattle.files.proofs.Told.{length-told}
+use mathlib.Core.Path.{◌≡◌}
+use Rattle.files.specs.File.{exceptions, told}
 use Rattle.files.proofs.tell.Given as goal
 
 abbrev pub invariant-loop-i : goal.invariant-loop-i

@@ -1,5 +1,4 @@
 -- `outcomes::put` meets its contract: the places before `k` hold the words.
-use Prim.Native.Nat.{◌-◌}
 use mathlib.Core.Path.{refl, sym, ◌∙◌}
 use native.Mathlib.Omega.{arith}
 use borrow.Author.Rules.{sfits_of}

@@ -1,12 +1,7 @@
 use Prim.Native.Nat.{◌-◌}
-use mathlib.Core.Path.{refl, sym, ◌∙◌}
-use native.Mathlib.Omega.{arith}
-use borrow.Author.Rules.{rules, sfits_of}
-use lib.IntN.{pos}
 use lib.ListN.{length}
 use Rattle.ground.specs.Lists.{at}
-use Rattle.ground.proofs.Bits.{back_is}
-use Rattle.ground.proofs.Lists.{Passed, passed_none, passed-set, passed-all, is-table}
+use Rattle.ground.proofs.Lists.{Passed}
 use Rattle.outcomes.proofs.put.Given as goal
 
 abbrev pub invariant-loop-k : goal.invariant-loop-k

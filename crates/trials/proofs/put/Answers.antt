@@ -1,5 +1,4 @@
 -- `trials::put` meets its contract: the first `i` bytes of the piece are stored.
-use Prim.Native.Nat.{◌-◌}
 use mathlib.Core.Path.{◌≡◌, refl, ap, ◌∙◌}
 use native.Mathlib.Omega.{arith}
 use lib.ListN.{length, take}

@@ -1,10 +1,7 @@
 use Prim.Native.Nat.{◌-◌, ◌≤◌}
-use mathlib.Core.Path.{◌≡◌, refl, ap, ◌∙◌}
-use native.Mathlib.Omega.{arith}
-use borrow.Author.Rules.{rules}
+use mathlib.Core.Path.{◌≡◌}
 use lib.ListN.{length, take}
-use lib.Seq.{sets, length-sets, take_all}
-use Rattle.trials.proofs.Storing.{next}
+use lib.Seq.{sets}
 use Rattle.trials.proofs.put.Given as goal
 
 abbrev pub invariant-loop-i : goal.invariant-loop-i

@@ -1,5 +1,4 @@
 -- `trials::put_answer` meets its contract: the test of the word says which piece is its text.
-use borrow.Author.Rules.{rules}
 use mathlib.Core.Path.{ap, ◌∙◌}
 use Rattle.ground.proofs.Bits.{back_is}
 use Rattle.text.specs.Decimal.{decimal_of}

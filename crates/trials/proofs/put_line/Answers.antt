@@ -1,7 +1,6 @@
 -- `trials::put_line` meets its contract: three pieces, one after the other.
 use mathlib.Core.Path.{ap}
 use native.Mathlib.Omega.{arith}
-use borrow.Author.Rules.{rules}
 use lib.IntN.{ℤ}
 use Rattle.ground.proofs.Bits.{back, back_is}
 use Rattle.trials.specs.Listing.{ending, answer_text, line_of}

@@ -1,13 +1,8 @@
 -- `trials::put_lines` meets its contract: the lines of the cards below `p` are stored.
-use Prim.Native.Nat.{ℕ, ◌-◌}
 use mathlib.Core.Path.{◌≡◌, sym, ap, ◌∙◌}
-use mathlib.Core.List.{List}
-use mathlib.Core.Logic.{⊎_elim}
 use native.Mathlib.Omega.{arith}
 use borrow.Author.Rules.{sfits_of}
-use lib.IntN.{ℤ}
 use lib.ListN.{get_or}
-use Rattle.ground.specs.Lists.{at as word_at}
 use Rattle.ground.proofs.Bits.{back_is}
 use Rattle.settings.specs.Settings.{fits}
 use Rattle.trials.specs.Listing.{line_of, lines}

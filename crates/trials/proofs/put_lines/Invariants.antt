@@ -1,18 +1,11 @@
 use Prim.Native.Nat.{ℕ, ◌-◌, ◌≤◌}
-use mathlib.Core.Path.{◌≡◌, sym, ap, ◌∙◌}
 use mathlib.Core.List.{List}
-use mathlib.Core.Logic.{⊎_elim}
-use native.Mathlib.Omega.{arith}
-use borrow.Author.Rules.{rules, sfits_of}
 use lib.IntN.{ℤ}
 use lib.ListN.{get_or}
 use Rattle.ground.specs.Lists.{at as word_at}
-use Rattle.ground.proofs.Bits.{back_is}
 use Rattle.settings.specs.Settings.{fits}
 use Rattle.trials.specs.Listing.{line_of, lines}
 use Rattle.trials.specs.Storing.{Stored}
-use Rattle.trials.proofs.Storing.{nothing, then, kept, renamed, moved}
-use Rattle.trials.proofs.Lines.{length-line, length-lines, lines-yes, lines-no}
 use Rattle.trials.proofs.put_lines.Given as goal
 
 abbrev pub line : List ℕ → List ℤ → ℕ → List ℕ

@@ -1,7 +1,6 @@
 -- `trials::put_listed` meets its contract: each answer stores the card lines and then its own, and a file that is not refused has one.
 use mathlib.Core.Path.{sym, ap, ◌∙◌}
 use native.Mathlib.Omega.{arith}
-use borrow.Author.Rules.{rules}
 use Rattle.bound.specs.Bound.{of_bounded}
 use Rattle.files.proofs.Good.{file-good}
 use Rattle.trials.specs.Listing.{bound_line}
