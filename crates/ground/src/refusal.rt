@@ -42,6 +42,7 @@ pub fn when(applies: bool, number: u8) -> u8
 }
 
 // The first refusal, or the second where that is none.
+#[tactic(auto, unfolding(crate::specs::Checks::next))]
 pub fn first(no: u8, other: u8) -> u8
     ensures { result ≡ next no other }
 {

@@ -1,5 +1,6 @@
 -- `entering::held_after` meets its contract: the machine's two tests of words are those of the rule.
 use mathlib.Core.Path.{sym, ap, ◌∙◌}
+use borrow.Author.Rules.{rules}
 use lib.Dec.{lit<}
 use mir.Syntax.{w32}
 use mir.Val.{of_z, SFits}
@@ -17,7 +18,7 @@ returns-then-old-eq-E c =
 
 pub returns-then-old-new : goal.returns-then-old-new
 returns-then-old-new c =
-    let e = bits-eq c.ranges.old c.ranges.new c.if-old-new.true in
+    let e = bits-eq c.ranges.old c.ranges.new (search rules) in
     back_is c.ranges.new ∙ sym e ∙ sym (same-again c.args.old c.args.new (λ e. c.if-old-eq-E.false (ap (of_z w32) e)) e)
 
 pub returns : goal.returns

@@ -5,7 +5,7 @@ use mathlib.Core.Path.{◌≡◌, refl, sym, ap, ◌∙◌}
 use mathlib.Core.Bool.{Bool, false}
 use mathlib.Core.List.{List}
 use native.Mathlib.Omega.{arith}
-use borrow.Author.Rules.{sfits_of}
+use borrow.Author.Rules.{rules, sfits_of}
 use lib.IntN.{ℤ}
 use lib.ListN.{length, length-set, set}
 use lib.Seq.{length-take-le}
@@ -54,7 +54,7 @@ instance-returns t c =
     )
 
 pub over_members-loop-q-init : goal.over_members-loop-q-init
-over_members-loop-q-init t c = (refl, report-first _ _ _ _ refl c.weight-count.ensures)
+over_members-loop-q-init t c = (refl, report-first _ _ _ _ refl (search rules))
 
 pub over_members-bounds-members-q : goal.over_members-bounds-members-q
 over_members-bounds-members-q t c = c.loop-q-test.true
@@ -100,7 +100,7 @@ pub over_members-bounds-reports-count : goal.over_members-bounds-reports-count
 over_members-bounds-reports-count t c = omega (arith, c.loop-q.invariant.1.few)
 
 pub over_members-overflow_add-count : goal.over_members-overflow_add-count
-over_members-overflow_add-count t c = omega (arith, c.loop-q.invariant.1.few, weighs (omh.struck (back c.instance-vote.result)) c.weight-count-then-members-q.ensures)
+over_members-overflow_add-count t c = grind (arith, c.loop-q.invariant.1.few, weighs)
 
 pub over_members-overflow_step-q : goal.over_members-overflow_step-q
 over_members-overflow_step-q t c = omega arith
@@ -119,7 +119,7 @@ over_members-loop-q-preserved t c =
         w.members-is ∙ put_back c.loop-q.members _ q w.if-members-q.true w.instance-vote.ensures.1 ∙ same,
         report-more c.loop-q.invariant.1 h (rw (← same) w.if-members-q.true)
             (back_is (sfits_of w.instance-vote.type_inv) ∙ w.instance-vote.ensures.0 ∙ ap (λ (l : List Bool). member_vote omh a.words.now (set l q false) a.left (a.d + 1) (below a.k q)) same)
-            w.reports-is (w.count-is ∙ ap (λ (x : ℕ). c.loop-q.count + x) w.weight-count-then-members-q.ensures),
+            w.reports-is (w.count-is ∙ ap (λ (x : ℕ). c.loop-q.count + x) (search rules)),
       )
       | over_members-else-members-q w ↦ (w.members-is ∙ same, report-same c.loop-q.invariant.1 h (rw (← same) w.if-members-q.false) w.reports-is w.count-is)
     ]
