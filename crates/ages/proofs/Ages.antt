@@ -5,31 +5,31 @@ use Rattle.ages.specs.Ages.{next_number, age_of, class_of}
 use Rattle.ages.specs.declared.Age.TheVariants.{Current, Old, Ahead}
 
 module _ (current frame : ℕ) (c : current < 65536) (f : frame < 65536) where
-  pub age-below : age_of current frame < 65536
+  pub age_below : age_of current frame < 65536
   unfolding age_of
-  age-below = omega arith
+  age_below = omega arith
 
   -- the age is what the frame's number lacks
-  pub age-lacks : (frame + age_of current frame) % 65536 ≡ current
+  pub age_lacks : (frame + age_of current frame) % 65536 ≡ current
   unfolding age_of
-  age-lacks = omega arith
+  age_lacks = omega arith
 
-  pub age-only : (x : ℕ) → x < 65536 → (frame + x) % 65536 ≡ current → x ≡ age_of current frame
+  pub age_only : (x : ℕ) → x < 65536 → (frame + x) % 65536 ≡ current → x ≡ age_of current frame
   unfolding age_of
-  age-only x h e = omega arith
+  age_only x h e = omega arith
 
-  pub age-zero : (age_of current frame ≡ 0) ↔ (current ≡ frame)
+  pub age_zero : (age_of current frame ≡ 0) ↔ (current ≡ frame)
   unfolding age_of
-  age-zero = (λ e. omega arith, λ e. omega arith)
+  age_zero = (λ e. omega arith, λ e. omega arith)
 
-pub age-next : (x : ℕ) → x < 65536 → age_of (next_number x) x ≡ 1
+pub age_next : (x : ℕ) → x < 65536 → age_of (next_number x) x ≡ 1
 unfolding age_of next_number
-age-next x h = omega arith
+age_next x h = omega arith
 
 module _ (age : ℕ) where
-  pub is-current : age ≡ 0 → class_of age ≡ Current
+  pub is_current : age ≡ 0 → class_of age ≡ Current
   unfolding class_of
-  is-current e = rw (eq-eqb age 0 e)
+  is_current e = rw (eq-eqb age 0 e)
 
   pub is-old : 1 ≤ age → age ≤ 32767 → class_of age ≡ Old
   unfolding class_of

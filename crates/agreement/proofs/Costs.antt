@@ -18,10 +18,10 @@ use Rattle.agreement.proofs.Elected.{price, cost}
 abbrev having : Exchange → (Status → Bool) → ℕ → ℕ → ℕ
 having X is c q = count (λ x. fits X.rack x && is (X.status x)) c q
 
-cost-by : (R : Rule) (X : Exchange) (c q : ℕ) → sum (fits X.rack) (λ x. cost R (X.status x)) c q ≡ 2 * having X is_arbitrary c q + 2 * having X is_symmetric c q + price R * having X is_manifest c q
+cost_by : (R : Rule) (X : Exchange) (c q : ℕ) → sum (fits X.rack) (λ x. cost R (X.status x)) c q ≡ 2 * having X is_arbitrary c q + 2 * having X is_symmetric c q + price R * having X is_manifest c q
 unfolding sum count
-cost-by R X zero q = omega arith
-cost-by R X (suc c) q = go (fits X.rack q) (X.status q) _ _ _ _ (cost-by R X c (suc q))
+cost_by R X zero q = omega arith
+cost_by R X (suc c) q = go (fits X.rack q) (X.status q) _ _ _ _ (cost_by R X c (suc q))
   where
     go : (f : Bool) (s : Status) (l a b d : ℕ) → l ≡ 2 * a + 2 * b + price R * d → cond f (cost R s) 0 + l ≡ 2 * cond (f && is_arbitrary s) (suc a) a + 2 * cond (f && is_symmetric s) (suc b) b + price R * cond (f && is_manifest s) (suc d) d
     go true good l a b d e = omega arith
@@ -34,8 +34,8 @@ cost-by R X (suc c) q = go (fits X.rack q) (X.status q) _ _ _ _ (cost-by R X c (
 abbrev costs : Rule → Exchange → ℕ
 costs R X = 2 * arbitraries X.rack X.status + 2 * symmetrics X.rack X.status + price R * manifests X.rack X.status
 
-pub cost-all : (R : Rule) (X : Exchange) → total (fits X.rack) (λ q. cost R (X.status q)) ≡ costs R X
-cost-all R X = cost-by R X 10 0
+pub cost_all : (R : Rule) (X : Exchange) → total (fits X.rack) (λ q. cost R (X.status q)) ≡ costs R X
+cost_all R X = cost_by R X 10 0
 
 -- n > 2a + 2s + price c + m
 abbrev pub EnoughBy : Rule → Exchange → Type 0

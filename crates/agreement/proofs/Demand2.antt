@@ -8,13 +8,13 @@ use lib.IntN.{ℤ}
 use Rattle.words.specs.Word.{E, kind_of, read_at}
 use Rattle.words.specs.Rule.{omh}
 use Rattle.words.specs.declared.Kind.TheVariants.{Ordinary}
-use Rattle.words.proofs.Reading.{as-ordinary, itself, read-E}
-use Rattle.words.proofs.Lawful.{omh-lawful}
+use Rattle.words.proofs.Reading.{as_ordinary, itself, read-E}
+use Rattle.words.proofs.Lawful.{omh_lawful}
 use Rattle.settings.specs.Settings.{cards, fits}
-use Rattle.vote.proofs.Votes.{answer-kind}
+use Rattle.vote.proofs.Votes.{answer_kind}
 use Rattle.exchange.specs.Exchange.{Status, good, symmetric, manifest, Exchange, settings_for, sent, received, answer_of}
 use Rattle.bound.specs.Bound.{is_arbitrary, arbitraries, symmetrics, manifests, enough, bounded}
-use Rattle.bound.proofs.Says.{enough_says, bounded-says}
+use Rattle.bound.proofs.Says.{enough_says, bounded_says}
 use Rattle.agreement.proofs.Costs.{omh-enough}
 use Rattle.agreement.proofs.Theorem.{validity, agreement}
 use Rattle.agreement.proofs.Tabled.{retabled, SameAsked, answer-asked}
@@ -63,20 +63,20 @@ pub record Demand2 (X : Exchange) : Type 0 where
   -- Words of the table that are sent to no card of the rack on a path live for it change no answer.
   pub unasked : (other : ℕ → ℕ → ℤ) → SameAsked X other → (p : ℕ) → T (fits X.rack p) → answer_of omh X p ≡ answer_of omh (retabled X other) p
 
-pub demand-2 : (X : Exchange) → Proper X → Demand2 X
+pub demand_2 : (X : Exchange) → Proper X → Demand2 X
 unfolding sent answer_of
-demand-2 X proper = record {
-  sender_good = λ e q o p g. valid e good q refl p g ∙ itself 0 X.value (as-ordinary o);
+demand_2 X proper = record {
+  sender_good = λ e q o p g. valid e good q refl p g ∙ itself 0 X.value (as_ordinary o);
   sender_symmetric = λ e q p g. valid e symmetric q refl p g;
   sender_manifest = λ e q p g. valid e manifest q refl p g ∙ read-E 0;
   agree = λ b p p' g g'.
-      let says = (bounded-says X.rack X.status).0 b in
-      agreement omh X omh-lawful proper.ten proper.three proper.sends (omh-enough X says.0) says.1 p p' g.card g'.card g.is_good g'.is_good;
+      let says = (bounded_says X.rack X.status).0 b in
+      agreement omh X omh_lawful proper.ten proper.three proper.sends (omh-enough X says.0) says.1 p p' g.card g'.card g.is_good g'.is_good;
   enough_says = enough_says X.rack X.status;
-  bound_says = bounded-says X.rack X.status;
-  ordinary_or_E = λ p. answer-kind (settings_for X p) (received omh X p);
+  bound_says = bounded_says X.rack X.status;
+  ordinary_or_E = λ p. answer_kind (settings_for X p) (received omh X p);
   unasked = answer-asked omh X;
 }
   where
     valid : enough X.rack X.status ≡ true → (status : Status) → X.status X.sender ≡ status → is_arbitrary status ≡ false → (p : ℕ) → GoodCard X p → answer_of omh X p ≡ read_at 0 (sent status X.value (X.tabled 0 0) (X.tabled 0 0))
-    valid e status q fair p g = validity omh X omh-lawful proper.ten proper.three proper.sends (omh-enough X ((enough_says X.rack X.status).0 e)) status q fair p g.card g.is_good
+    valid e status q fair p g = validity omh X omh_lawful proper.ten proper.three proper.sends (omh-enough X ((enough_says X.rack X.status).0 e)) status q fair p g.card g.is_good

@@ -12,9 +12,9 @@ use Rattle.ground.proofs.Lists.{Each, over-same}
 use Rattle.words.specs.Majority.{same, kept, occurs}
 use Rattle.words.specs.Rule.{Rule, majority_by}
 use Rattle.words.proofs.Same.{same_refl}
-use Rattle.words.proofs.Counts.{over-is, by-counts}
+use Rattle.words.proofs.Counts.{over_is, by_counts}
 use Rattle.exchange.specs.Exchange.{Status, good, arbitrary, symmetric, manifest}
-use Rattle.agreement.proofs.Sums.{sum, total, occurs-sum, Less, less-total}
+use Rattle.agreement.proofs.Sums.{sum, total, occurs-sum, Less, less_total}
 
 -- what a manifest card costs in the bound: 1 where the word for none is struck from votes, 2 where it is counted
 abbrev pub price : Rule → ℕ
@@ -41,9 +41,9 @@ Leads R v l n c = length (kept R.struck l) + n ≤ 2 * occurs v (kept R.struck l
 
 module _ (R : Rule) (v : ℤ) (l : List ℤ) (n c : ℕ) (leads : Leads R v l n c) where
   -- any vote costs at most two
-  lead-any : (w : ℤ) → Leads R v (w ∷ l) (suc n) (2 + c)
+  lead_any : (w : ℤ) → Leads R v (w ∷ l) (suc n) (2 + c)
   unfolding kept occurs
-  lead-any w = go (R.struck w) (same w v) _ refl leads
+  lead_any w = go (R.struck w) (same w v) _ refl leads
     where
       go : (a b : Bool) (k : List ℤ) → same w v ≡ b → length k + n ≤ 2 * occurs v k + c → length (cond a k (w ∷ k)) + suc n ≤ 2 * occurs v (cond a k (w ∷ k)) + (2 + c)
       go true b k e h = omega arith
@@ -51,16 +51,16 @@ module _ (R : Rule) (v : ℤ) (l : List ℤ) (n c : ℕ) (leads : Leads R v l n 
       go false false k e h = rw e (omega arith)
 
   -- a card's vote costs what the card does
-  lead-more : R.struck v ≡ false → (s : Status) (w : ℤ) → Says R v s w → Leads R v (w ∷ l) (suc n) (cost R s + c)
+  lead_more : R.struck v ≡ false → (s : Status) (w : ℤ) → Says R v s w → Leads R v (w ∷ l) (suc n) (cost R s + c)
   unfolding kept occurs
-  lead-more k good w e = rw (e, k, same_refl v) (omega arith)
-  lead-more k arbitrary w e = lead-any w
-  lead-more k symmetric w e = lead-any w
-  lead-more k manifest w e = go (R.struck R.none) refl
+  lead_more k good w e = rw (e, k, same_refl v) (omega arith)
+  lead_more k arbitrary w e = lead_any w
+  lead_more k symmetric w e = lead_any w
+  lead_more k manifest w e = go (R.struck R.none) refl
     where
       go : (b : Bool) → R.struck R.none ≡ b → Leads R v (w ∷ l) (suc n) (cond b 1 2 + c)
       go true s = rw (e, s) (omega arith)
-      go false s = lead-any w
+      go false s = lead_any w
 
 module _ (R : Rule) (status : ℕ → Status) (v : ℤ) (k : R.struck v ≡ false) (passes : ℕ → Bool) (f : ℕ → ℤ) where
   leading : (c q : ℕ) → Each passes c q (λ x. Says R v (status x) (f x)) → Leads R v (over passes f c q) (count passes c q) (sum passes (λ x. cost R (status x)) c q)
@@ -69,12 +69,12 @@ module _ (R : Rule) (status : ℕ → Status) (v : ℤ) (k : R.struck v ≡ fals
   leading (suc c) q h = go (passes q) _ _ _ (h q (omega arith) (omega arith)) (leading c (suc q) (λ x a b. h x (omega arith) (omega arith)))
     where
       go : (b : Bool) (l : List ℤ) (n m : ℕ) → (T b → Says R v (status q) (f q)) → Leads R v l n m → Leads R v (cond b (f q ∷ l) l) (cond b (suc n) n) (cond b (cost R (status q)) 0 + m)
-      go true l n m s ih = lead-more R v l n m ih k (status q) (f q) (s tt)
+      go true l n m s ih = lead_more R v l n m ih k (status q) (f q) (s tt)
       go false l n m s ih = omega arith
 
   -- where the cards cost less than their number, v has the majority
   pub elected : Each passes 10 0 (λ x. Says R v (status x) (f x)) → total passes (λ x. cost R (status x)) < count passes 10 0 → majority_by R (over passes f 10 0) ≡ v
-  elected h b = over-is R.struck R.none _ v (omega (arith, leading 10 0 h))
+  elected h b = over_is R.struck R.none _ v (omega (arith, leading 10 0 h))
 
 -- ---- the own report first, or in its card's place: the majority is the same
 
@@ -82,7 +82,7 @@ pub pooled : (R : Rule) (passes fewer : ℕ → Bool) (p : ℕ) → Less passes 
 unfolding occurs
 pooled R passes fewer p less own f g e h =
     rw (e, over-same fewer f g 10 0 (λ q a b t. h q (λ s. subst T (ap fewer s ∙ less.out) t)))
-    (by-counts R.struck R.none _ _ (λ v. one (same (g p) v) _ ∙ omega (arith, less-total passes fewer p less (λ x. cond (same (g x) v) 1 0), occurs-sum v fewer g 10 0, occurs-sum v passes g 10 0)))
+    (by_counts R.struck R.none _ _ (λ v. one (same (g p) v) _ ∙ omega (arith, less_total passes fewer p less (λ x. cond (same (g x) v) 1 0), occurs-sum v fewer g 10 0, occurs-sum v passes g 10 0)))
   where
     one : (b : Bool) (n : ℕ) → cond b (suc n) n ≡ n + cond b 1 0
     one true n = omega arith

@@ -23,9 +23,9 @@ sent-same manifest w a b first e = refl
 
 module _ (R : Rule) (X : Exchange) where
   -- from the sender
-  pub fair-first : is_arbitrary (X.status X.sender) ≡ false → Fair R X 0
-  fair-first e p = sym (dealt-first R X 0 p refl refl refl) ∙ sent-same _ _ _ _ _ e ∙ dealt-first R X 0 0 refl refl refl
+  pub fair_first : is_arbitrary (X.status X.sender) ≡ false → Fair R X 0
+  fair_first e p = sym (dealt-first R X 0 p refl refl refl) ∙ sent-same _ _ _ _ _ e ∙ dealt-first R X 0 0 refl refl refl
 
   -- from the relay q
-  pub fair-below : (k q : ℕ) → k < 111 → q < 10 → is_arbitrary (X.status q) ≡ false → Fair R X (below k q)
-  fair-below k q h g e p = dealt-below R X k q h g p ∙ sent-same _ _ _ _ _ e ∙ sym (dealt-below R X k q h g 0)
+  pub fair_below : (k q : ℕ) → k < 111 → q < 10 → is_arbitrary (X.status q) ≡ false → Fair R X (below k q)
+  fair_below k q h g e p = dealt-below R X k q h g p ∙ sent-same _ _ _ _ _ e ∙ sym (dealt-below R X k q h g 0)

@@ -19,9 +19,9 @@ left X k q = none_of q (relays k) && (not (eqb q X.sender) && fits X.rack q)
 
 module _ (X : Exchange) where
   -- at slot 0 all cards of the rack are left, but the sender
-  pub left-first : X.sender < 10 → T (fits X.rack X.sender) → Less (fits X.rack) (left X 0) X.sender
+  pub left_first : X.sender < 10 → T (fits X.rack X.sender) → Less (fits X.rack) (left X 0) X.sender
   unfolding left none_of all relays_by level
-  left-first h f = record {
+  left_first h f = record {
     place = h;
     was = f;
     out = rw (eq-eqb X.sender X.sender refl);
@@ -39,15 +39,15 @@ module _ (X : Exchange) where
   }
 
   -- the sender is never left
-  pub left-sender : (k p : ℕ) → T (left X k p) → p ≡ X.sender → ⊥
+  pub left_sender : (k p : ℕ) → T (left X k p) → p ≡ X.sender → ⊥
   unfolding left
-  left-sender k p t e =
+  left_sender k p t e =
       subst (λ (b : Bool). T (not b && fits X.rack p)) (eq-eqb p X.sender e) (and_right (none_of p (relays k)) _ t)
 
   -- the paths one relay longer that are live for p, left itself, are those by the other cards left
-  pub left-own : (k p : ℕ) → p < 10 → T (left X k p) → T (live (settings_for X p) k) → level k < X.rack.m → k < 111 → Less (left X k) (λ q. live (settings_for X p) (below k q)) p
+  pub left_own : (k p : ℕ) → p < 10 → T (left X k p) → T (live (settings_for X p) k) → level k < X.rack.m → k < 111 → Less (left X k) (λ q. live (settings_for X p) (below k q)) p
   unfolding left lengthens may_relay
-  left-own k p g t a l h = record {
+  left_own k p g t a l h = record {
     place = g;
     was = t;
     out = alive p g ∙ simp (eq-eqb p p refl, and-false);
@@ -55,7 +55,7 @@ module _ (X : Exchange) where
   }
     where
       apart : T (not (eqb p X.sender))
-      apart = subst (λ (b : Bool). T (not b)) (sym (ne_eqb p X.sender (left-sender k p t))) tt
+      apart = subst (λ (b : Bool). T (not b)) (sym (ne_eqb p X.sender (left_sender k p t))) tt
 
       alive : (q : ℕ) → q < 10 → live (settings_for X p) (below k q) ≡ lengthens (settings_for X p) k q
       alive q b = live_below (settings_for X p) k q b a l h apart

@@ -8,7 +8,7 @@ use native.Mathlib.Decide.{ℕ_discrete}
 use lib.Dec.{T}
 use lib.IntN.{ℤ}
 use Rattle.ground.specs.Lists.{over, count}
-use Rattle.ground.proofs.Bools.{T-eq}
+use Rattle.ground.proofs.Bools.{T_eq}
 use Rattle.words.specs.Majority.{same, occurs}
 
 -- the sum of g over those of the c cards from q on that pass
@@ -33,10 +33,10 @@ count-sum passes (suc c) q = go (passes q) _ _ (count-sum passes c (suc q))
     go false n m e = omega arith
 
 -- how many pass both of two tests
-pub count-both : (passes also : ℕ → Bool) (c q : ℕ) → count (λ x. passes x && also x) c q ≡ sum passes (λ x. cond (also x) 1 0) c q
+pub count_both : (passes also : ℕ → Bool) (c q : ℕ) → count (λ x. passes x && also x) c q ≡ sum passes (λ x. cond (also x) 1 0) c q
 unfolding count sum
-count-both passes also zero q = refl
-count-both passes also (suc c) q = go (passes q) (also q) _ _ (count-both passes also c (suc q))
+count_both passes also zero q = refl
+count_both passes also (suc c) q = go (passes q) (also q) _ _ (count_both passes also c (suc q))
   where
     go : (a b : Bool) (n m : ℕ) → n ≡ m → cond (a && b) (suc n) n ≡ cond a (cond b 1 0) 0 + m
     go true true n m e = omega arith
@@ -80,12 +80,12 @@ module _ (passes fewer : ℕ → Bool) (x : ℕ) (less : Less passes fewer x) (g
   from (suc c) s e h = go (ℕ_discrete s x) (from c (suc s) (omega arith))
     where
       go : Dec (s ≡ x) → (suc s ≤ x → sum fewer g c (suc s) + g x ≡ sum passes g c (suc s)) → cond (fewer s) (g s) 0 + sum fewer g c (suc s) + g x ≡ cond (passes s) (g s) 0 + sum passes g c (suc s)
-      go (yes q) ih = rw (q, T-eq (passes x) less.was, less.out) (omega (arith, after c (suc x) (omega arith) (omega arith)))
+      go (yes q) ih = rw (q, T_eq (passes x) less.was, less.out) (omega (arith, after c (suc x) (omega arith) (omega arith)))
       go (no n) ih = omega (arith, other s (omega arith) n, ih (omega arith))
 
-  pub less-total : total fewer g + g x ≡ total passes g
-  less-total = from 10 0 refl (omega arith)
+  pub less_total : total fewer g + g x ≡ total passes g
+  less_total = from 10 0 refl (omega arith)
 
 -- and one card fewer passes
-pub less-count : (passes fewer : ℕ → Bool) (x : ℕ) → Less passes fewer x → count fewer 10 0 + 1 ≡ count passes 10 0
-less-count passes fewer x less = omega (arith, count-sum fewer 10 0, count-sum passes 10 0, less-total passes fewer x less (λ _. 1))
+pub less_count : (passes fewer : ℕ → Bool) (x : ℕ) → Less passes fewer x → count fewer 10 0 + 1 ≡ count passes 10 0
+less_count passes fewer x less = omega (arith, count-sum fewer 10 0, count-sum passes 10 0, less_total passes fewer x less (λ _. 1))

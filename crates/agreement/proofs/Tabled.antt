@@ -9,11 +9,11 @@ use borrow.Author.Tests.{ne_eqb}
 use Rattle.words.specs.Rule.{Rule}
 use Rattle.settings.specs.Settings.{fits}
 use Rattle.paths.specs.Slots.{above, last_relay, level, live}
-use Rattle.paths.proofs.Levels.{level-zero, level-above, pos-level}
+use Rattle.paths.proofs.Levels.{level_zero, level-above, pos_level}
 use Rattle.paths.proofs.Live.{live-slot}
-use Rattle.paths.proofs.Relays.{relay-received}
+use Rattle.paths.proofs.Relays.{relay_received}
 use Rattle.exchange.specs.Exchange.{Status, good, arbitrary, symmetric, manifest, Exchange, settings_for, sent, dealt_at, received, answer_of}
-use Rattle.exchange.proofs.Dealing.{at-received, answer-from}
+use Rattle.exchange.proofs.Dealing.{at-received, answer_from}
 
 -- the exchange with another table
 abbrev pub retabled : Exchange → (ℕ → ℕ → ℤ) → Exchange
@@ -47,24 +47,24 @@ sent-asked symmetric w w' a a' b b' e f g = g refl
 sent-asked manifest w w' a a' b b' e f g = refl
 
 module _ (R : Rule) (X : Exchange) (other : ℕ → ℕ → ℤ) (same : SameAsked X other) where
-  by-sender : (k p q : ℕ) (w w' : ℤ) → Asks X k p → sends X k ≡ q → w ≡ w' → sent (X.status q) w (X.tabled k p) (X.tabled k 0) ≡ sent (X.status q) w' (other k p) (other k 0)
-  by-sender k p q w w' a s e =
+  by_sender : (k p q : ℕ) (w w' : ℤ) → Asks X k p → sends X k ≡ q → w ≡ w' → sent (X.status q) w (X.tabled k p) (X.tabled k 0) ≡ sent (X.status q) w' (other k p) (other k 0)
+  by_sender k p q w w' a s e =
       sent-asked (X.status q) w w' _ _ _ _ e (λ f. same.for_card k p a (ap X.status s ∙ f)) (λ f. same.for_all k p a (ap X.status s ∙ f))
 
   dealt-asked : (d k p : ℕ) → level k ≡ d → Asks X k p → dealt_at R X d k p ≡ dealt_at R (retabled X other) d k p
   unfolding dealt_at
   dealt-asked zero k p e a =
-      let z : k ≡ 0 = level-zero k (live-slot (settings_for X p) k a.alive) e in
-      by-sender k p X.sender _ _ a (rw z) refl
+      let z : k ≡ 0 = level_zero k (live-slot (settings_for X p) k a.alive) e in
+      by_sender k p X.sender _ _ a (rw z) refl
   dealt-asked (suc d) k p e a =
-      let h : 0 < k = pos-level k d e in
-      let relay = relay-received (settings_for X p) k a.alive h in
-      by-sender k p (last_relay k) _ _ a (rw (ne_eqb k 0 (λ z. omega arith)))
+      let h : 0 < k = pos_level k d e in
+      let relay = relay_received (settings_for X p) k a.alive h in
+      by_sender k p (last_relay k) _ _ a (rw (ne_eqb k 0 (λ z. omega arith)))
       (ap (λ (w : ℤ). R.wrap (R.read d w))
       (dealt-asked d (above k) (last_relay k) (level-above k d (live-slot (settings_for X p) k a.alive) e) (record { card = relay.0; alive = relay.1 })))
 
   pub answer-asked : (p : ℕ) → T (fits X.rack p) → answer_of R X p ≡ answer_of R (retabled X other) p
   unfolding answer_of
   answer-asked p f =
-      answer-from R (retabled X other) p (received R X p) (λ k t.
+      answer_from R (retabled X other) p (received R X p) (λ k t.
       at-received R X p k (live-slot (settings_for X p) k t) ∙ dealt-asked (level k) k p refl (record { card = f; alive = t }))

@@ -11,12 +11,12 @@ use Rattle.ground.specs.Checks.{Check, check, verdict, next}
 use Rattle.ground.specs.Answer.{Answer, value, refused, Outcome, outcome, outcome_by}
 use Rattle.ground.specs.Lists.{all}
 use Rattle.ground.proofs.Bools.{and_left, and_right}
-use Rattle.ground.proofs.Verdicts.{proper, no-verdict, verdict-append, joined, rest-decides, first-decides, still-refused}
+use Rattle.ground.proofs.Verdicts.{proper, no_verdict, verdict-append, joined, rest_decides, first_decides, still_refused}
 use Rattle.ground.proofs.Answers.{outcome-refused, value-verdict, refused-verdict}
 use Rattle.settings.specs.declared.Settings.{Settings}
 use Rattle.paths.specs.Slots.{live}
 use Rattle.paths.specs.Asked.{used, path_checks, slot_asked}
-use Rattle.paths.proofs.Asking.{slot-good}
+use Rattle.paths.proofs.Asking.{slot_good}
 use Rattle.vote.specs.Vote.{rule_of}
 use Rattle.book.specs.Book.{Book}
 use Rattle.book.specs.Asked.{book_checks}
@@ -33,36 +33,36 @@ use Rattle.arrivals.specs.Entry.{frame_slot, timely_checks, frame_checks, frame_
 -- ---- a well formed frame has a slot
 
 -- a used relay of a well formed frame is one of the ten cards
-relay-used : (d k q : ℕ) → k ≤ d → T (relay_formed d k q) → ltb q 10 ≡ true
+relay_used : (d k q : ℕ) → k ≤ d → T (relay_formed d k q) → ltb q 10 ≡ true
 unfolding relay_formed
-relay-used d k q h t = lt-ltb q 10 (omega (arith, leb→le q 9 (rw (le-leb k d h) at t)))
+relay_used d k q h t = lt-ltb q 10 (omega (arith, leb→le q 9 (rw (le-leb k d h) at t)))
 
-relays-small : (d q1 q2 q3 : ℕ) → T (relay_formed d 1 q1) → T (relay_formed d 2 q2) → T (relay_formed d 3 q3) → all (λ q. ltb q 10) (used d q1 q2 q3) ≡ true
+relays_small : (d q1 q2 q3 : ℕ) → T (relay_formed d 1 q1) → T (relay_formed d 2 q2) → T (relay_formed d 3 q3) → all (λ q. ltb q 10) (used d q1 q2 q3) ≡ true
 unfolding used all
-relays-small zero q1 q2 q3 a b c = refl
-relays-small (suc zero) q1 q2 q3 a b c = rw (relay-used 1 1 q1 (omega arith) a)
-relays-small (suc (suc zero)) q1 q2 q3 a b c = rw (relay-used 2 2 q2 (omega arith) b, relay-used 2 1 q1 (omega arith) a)
-relays-small (suc (suc (suc d))) q1 q2 q3 a b c =
-    rw (relay-used (suc (suc (suc d))) 3 q3 (omega arith) c, relay-used (suc (suc (suc d))) 2 q2 (omega arith) b, relay-used (suc (suc (suc d))) 1 q1 (omega arith) a)
+relays_small zero q1 q2 q3 a b c = refl
+relays_small (suc zero) q1 q2 q3 a b c = rw (relay_used 1 1 q1 (omega arith) a)
+relays_small (suc (suc zero)) q1 q2 q3 a b c = rw (relay_used 2 2 q2 (omega arith) b, relay_used 2 1 q1 (omega arith) a)
+relays_small (suc (suc (suc d))) q1 q2 q3 a b c =
+    rw (relay_used (suc (suc (suc d))) 3 q3 (omega arith) c, relay_used (suc (suc (suc d))) 2 q2 (omega arith) b, relay_used (suc (suc (suc d))) 1 q1 (omega arith) a)
 
 -- the last four of six tests
-last-four : (a b c d e f : Bool) → T (a && b && c && d && e && f) → T c × T d × T e × T f
-last-four a b c d e f t =
+last_four : (a b c d e f : Bool) → T (a && b && c && d && e && f) → T c × T d × T e × T f
+last_four a b c d e f t =
     let five = and_left (a && b && c && d && e) f t in
     let four = and_left (a && b && c && d) e five in
     (and_right (a && b) c (and_left (a && b && c) d four), and_right (a && b && c) d four, and_right (a && b && c && d) e five, and_right (a && b && c && d && e) f t)
 
 module _ (f : Frame) (w : well_formed f ≡ true) where
-  slot-formed : slot_asked f.level f.q1 f.q2 f.q3 ≡ value (frame_slot f)
+  slot_formed : slot_asked f.level f.q1 f.q2 f.q3 ≡ value (frame_slot f)
   unfolding well_formed
-  slot-formed =
-      let t = last-four (leb f.sender 9) (leb f.receiver 9) (leb f.level 3) (relay_formed f.level 1 f.q1) (relay_formed f.level 2 f.q2) (relay_formed f.level 3 f.q3) (subst T (sym w) tt) in
-      slot-good f.level f.q1 f.q2 f.q3 (leb→le f.level 3 t.0) (relays-small f.level f.q1 f.q2 f.q3 t.1 t.2 t.3)
+  slot_formed =
+      let t = last_four (leb f.sender 9) (leb f.receiver 9) (leb f.level 3) (relay_formed f.level 1 f.q1) (relay_formed f.level 2 f.q2) (relay_formed f.level 3 f.q3) (subst T (sym w) tt) in
+      slot_good f.level f.q1 f.q2 f.q3 (leb→le f.level 3 t.0) (relays_small f.level f.q1 f.q2 f.q3 t.1 t.2 t.3)
 
   -- so its record has a path
-  path-formed : verdict (path_checks f.level f.q1 f.q2 f.q3) ≡ 0
+  path_formed : verdict (path_checks f.level f.q1 f.q2 f.q3) ≡ 0
   unfolding slot_asked
-  path-formed = (value-verdict _ _ slot-formed).0
+  path_formed = (value-verdict _ _ slot_formed).0
 
 -- ---- old, ahead, another book's
 
@@ -71,13 +71,13 @@ module _ (s : Settings) (current : ℕ) (f : Frame) where
   unfolding verdict
   by_old e = rw e
 
-  pub by-ahead : class_of (age_of current f.exchange) ≡ Ahead → 13 ≡ verdict (timely_checks s current f)
+  pub by_ahead : class_of (age_of current f.exchange) ≡ Ahead → 13 ≡ verdict (timely_checks s current f)
   unfolding verdict
-  by-ahead e = rw e
+  by_ahead e = rw e
 
-  pub by-foreign : class_of (age_of current f.exchange) ≡ Current → (eqb f.sender s.t && eqb f.receiver s.p) ≡ false → 15 ≡ verdict (timely_checks s current f)
+  pub by_foreign : class_of (age_of current f.exchange) ≡ Current → (eqb f.sender s.t && eqb f.receiver s.p) ≡ false → 15 ≡ verdict (timely_checks s current f)
   unfolding verdict
-  by-foreign e h = rw (e, h)
+  by_foreign e h = rw (e, h)
 
   pub timely : class_of (age_of current f.exchange) ≡ Current → (eqb f.sender s.t && eqb f.receiver s.p) ≡ true → 0 ≡ verdict (timely_checks s current f)
   unfolding verdict
@@ -88,13 +88,13 @@ module _ (s : Settings) (current : ℕ) (f : Frame) where
 module _ (s : Settings) (current : ℕ) (bytes : List ℕ) (reads : verdict (read_checks bytes) ≡ 0) where
   -- bytes that read are a well formed record
   formed : well_formed (frame_of bytes) ≡ true
-  formed = not-false _ (no-verdict (read_checks bytes) tt reads).1.1.1.0
+  formed = not-false _ (no_verdict (read_checks bytes) tt reads).1.1.1.0
 
   -- and whether they carry an entry decides
-  by-entry : verdict (entry_checks s current (frame_of bytes)) ≡ verdict (frame_checks s current bytes)
-  by-entry =
-      first-decides (timely_checks s current (frame_of bytes)) _ tt (path-formed (frame_of bytes) formed)
-      ∙ sym (rest-decides (read_checks bytes) (timely_checks s current (frame_of bytes)) tt reads)
+  by_entry : verdict (entry_checks s current (frame_of bytes)) ≡ verdict (frame_checks s current bytes)
+  by_entry =
+      first_decides (timely_checks s current (frame_of bytes)) _ tt (path_formed (frame_of bytes) formed)
+      ∙ sym (rest_decides (read_checks bytes) (timely_checks s current (frame_of bytes)) tt reads)
 
 -- ---- other checks come before the frame's, and the slot's last: whatever memory is lent, and whatever an entry makes of it
 
@@ -114,36 +114,36 @@ module _ (cs : List Check) (p : T (proper cs)) (s : Settings) (current : ℕ) (b
   frame_is none =
       let slot = slot_after (frame_slot (frame_of bytes)) in
       ap (λ (v : ℕ). outcome_by v before (made (frame_entry (frame_of bytes))))
-      (verdict-append cs _ p ∙ ap (next (verdict cs)) (rest-decides (frame_checks s current bytes) slot tt none) ∙ sym (verdict-append cs slot p))
+      (verdict-append cs _ p ∙ ap (next (verdict cs)) (rest_decides (frame_checks s current bytes) slot tt none) ∙ sym (verdict-append cs slot p))
 
   -- refused with its own number, unless the others refuse it first
   refused-after : {k : ℕ} {x : Answer (Unit {0})} → k ≡ verdict (frame_checks s current bytes) → (k ≡ 0 → ⊥) → x ≡ refused (next (verdict cs) k) → outcome x before ≡ framed
   unfolding next
   refused-after {k} e n r =
       ap (λ (x : Answer (Unit {0})). outcome x before) r
-      ∙ outcome-refused (joined cs _ p refl refl (still-refused (frame_checks s current bytes) _ tt e n)) (some (verdict cs)) before _
+      ∙ outcome-refused (joined cs _ p refl refl (still_refused (frame_checks s current bytes) _ tt e n)) (some (verdict cs)) before _
     where
       some : (v : ℕ) → next v k ≡ 0 → ⊥
       some zero z = n z
       some (suc v) z = omega arith
 
   -- bytes that do not read
-  pub unread-refused : {k : ℕ} {x : Answer (Unit {0})} → k ≡ verdict (read_checks bytes) → (k ≡ 0 → ⊥) → x ≡ refused (next (verdict cs) k) → outcome x before ≡ framed
-  unread-refused e n = refused-after (still-refused (read_checks bytes) _ tt e n) n
+  pub unread_refused : {k : ℕ} {x : Answer (Unit {0})} → k ≡ verdict (read_checks bytes) → (k ≡ 0 → ⊥) → x ≡ refused (next (verdict cs) k) → outcome x before ≡ framed
+  unread_refused e n = refused-after (still_refused (read_checks bytes) _ tt e n) n
 
   -- bytes that do, by what their record carries
   module _ (reads : verdict (read_checks bytes) ≡ 0) where
-    pub carried-refused : {k : ℕ} {x : Answer (Unit {0})} → refused k ≡ entry_asked s current (frame_of bytes) → x ≡ refused (next (verdict cs) k) → outcome x before ≡ framed
+    pub carried_refused : {k : ℕ} {x : Answer (Unit {0})} → refused k ≡ entry_asked s current (frame_of bytes) → x ≡ refused (next (verdict cs) k) → outcome x before ≡ framed
     unfolding entry_asked
-    carried-refused c =
+    carried_refused c =
         let v = refused-verdict (frame_entry (frame_of bytes)) (verdict (entry_checks s current (frame_of bytes))) (sym c) in
-        refused-after (sym v.0 ∙ by-entry s current bytes reads) (λ z. v.1 (v.0 ∙ z))
+        refused-after (sym v.0 ∙ by_entry s current bytes reads) (λ z. v.1 (v.0 ∙ z))
 
-    pub carried-enters : {e : Entry} {o : Outcome (Answer (Unit {0})) L} → value e ≡ entry_asked s current (frame_of bytes) → o ≡ entry e → o ≡ framed
+    pub carried_enters : {e : Entry} {o : Outcome (Answer (Unit {0})) L} → value e ≡ entry_asked s current (frame_of bytes) → o ≡ entry e → o ≡ framed
     unfolding entry_asked
-    carried-enters c h =
+    carried_enters c h =
         let v = value-verdict (frame_entry (frame_of bytes)) (verdict (entry_checks s current (frame_of bytes))) (sym c) in
-        h ∙ ap entry (sym v.1) ∙ sym (frame_is (sym (by-entry s current bytes reads) ∙ v.0))
+        h ∙ ap entry (sym v.1) ∙ sym (frame_is (sym (by_entry s current bytes reads) ∙ v.0))
 
 -- so in a book
 pub frame-enters : (s : Settings) (b : Book) (current : ℕ) (bytes : List ℕ) → verdict (frame_checks s current bytes) ≡ 0 → frame_asked s b current bytes ≡ enter_asked s b (frame_slot (frame_of bytes)) (frame_of bytes).word

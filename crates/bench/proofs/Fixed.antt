@@ -6,14 +6,14 @@ use Rattle.ground.specs.Answer.{Outcome, outcome}
 use Rattle.ground.specs.Fixes.{Fixes}
 use Rattle.ground.specs.declared.Told.{Told}
 use Rattle.ground.specs.declared.Done.{Done}
-use Rattle.ground.proofs.Answers.{told-apart, outcome-apart}
-use Rattle.bench.proofs.answer_for.Kinds as answer-for
-use Rattle.bench.proofs.answer_for.Reads as answer-for-says
+use Rattle.ground.proofs.Answers.{told_apart, outcome_apart}
+use Rattle.bench.proofs.answer_for.Kinds as answer_for
+use Rattle.bench.proofs.answer_for.Reads as answer_for_says
 use Rattle.bench.proofs.all_answers.Kinds as all_answers
-use Rattle.bench.proofs.all_answers.Reads as all-answers-says
+use Rattle.bench.proofs.all_answers.Reads as all_answers_says
 
-pub answer-for-fixed : Fixes 2 answer-for.ps answer-for.r answer-for-says.Post Told (λ κs x s. x)
-answer-for-fixed κs a x y s t p q = told-apart x y (p ∙ sym q)
+pub answer_for_fixed : Fixes 2 answer_for.ps answer_for.r answer_for_says.Post Told (λ κs x s. x)
+answer_for_fixed κs a x y s t p q = told_apart x y (p ∙ sym q)
 
-pub all-answers-fixed : Fixes 3 all_answers.ps all_answers.r all-answers-says.Post (Outcome Done (List ℤ)) (λ κs x s. outcome x s.1.1.1.1.0.now)
-all-answers-fixed κs a x y s t p q = outcome-apart x y (p ∙ sym q)
+pub all_answers_fixed : Fixes 3 all_answers.ps all_answers.r all_answers_says.Post (Outcome Done (List ℤ)) (λ κs x s. outcome x s.1.1.1.1.0.now)
+all_answers_fixed κs a x y s t p q = outcome_apart x y (p ∙ sym q)

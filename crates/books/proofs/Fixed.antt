@@ -6,29 +6,29 @@ use lib.IntN.{ℤ}
 use Rattle.ground.specs.Answer.{Outcome, outcome}
 use Rattle.ground.specs.Fixes.{Fixes}
 use Rattle.ground.specs.declared.Done.{Done}
-use Rattle.ground.proofs.Answers.{outcome-apart}
-use Rattle.books.proofs.books_refused.Kinds as books-refused
-use Rattle.books.proofs.books_refused.Reads as books-refused-says
+use Rattle.ground.proofs.Answers.{outcome_apart}
+use Rattle.books.proofs.books_refused.Kinds as books_refused
+use Rattle.books.proofs.books_refused.Reads as books_refused_says
 use Rattle.books.proofs.open.Kinds as «open»
-use Rattle.books.proofs.open.Reads as open-says
+use Rattle.books.proofs.open.Reads as open_says
 use Rattle.books.proofs.enter.Kinds as enter
-use Rattle.books.proofs.enter.Reads as enter-says
+use Rattle.books.proofs.enter.Reads as enter_says
 use Rattle.books.proofs.refill.Kinds as refill
-use Rattle.books.proofs.refill.Reads as refill-says
-use Rattle.books.proofs.enter_frame.Kinds as enter-frame
-use Rattle.books.proofs.enter_frame.Reads as enter-frame-says
+use Rattle.books.proofs.refill.Reads as refill_says
+use Rattle.books.proofs.enter_frame.Kinds as enter_frame
+use Rattle.books.proofs.enter_frame.Reads as enter_frame_says
 
-pub books-refused-fixed : Fixes 1 books-refused.ps books-refused.r books-refused-says.Post ℕ (λ κs x s. x)
-books-refused-fixed κs a x y s t p q = p ∙ sym q
+pub books_refused_fixed : Fixes 1 books_refused.ps books_refused.r books_refused_says.Post ℕ (λ κs x s. x)
+books_refused_fixed κs a x y s t p q = p ∙ sym q
 
-pub open-fixed : Fixes 1 «open».ps «open».r open-says.Post (Outcome Done (List ℤ)) (λ κs x s. outcome x s.1.0.now)
-open-fixed κs a x y s t p q = outcome-apart x y (p ∙ sym q)
+pub open_fixed : Fixes 1 «open».ps «open».r open_says.Post (Outcome Done (List ℤ)) (λ κs x s. outcome x s.1.0.now)
+open_fixed κs a x y s t p q = outcome_apart x y (p ∙ sym q)
 
-pub enter-fixed : Fixes 1 enter.ps enter.r enter-says.Post (Outcome Done (List ℤ)) (λ κs x s. outcome x s.1.0.now)
-enter-fixed κs a x y s t p q = outcome-apart x y (p ∙ sym q)
+pub enter_fixed : Fixes 1 enter.ps enter.r enter_says.Post (Outcome Done (List ℤ)) (λ κs x s. outcome x s.1.0.now)
+enter_fixed κs a x y s t p q = outcome_apart x y (p ∙ sym q)
 
-pub refill-fixed : Fixes 1 refill.ps refill.r refill-says.Post (Outcome Done (List ℤ)) (λ κs x s. outcome x s.1.0.now)
-refill-fixed κs a x y s t p q = outcome-apart x y (p ∙ sym q)
+pub refill_fixed : Fixes 1 refill.ps refill.r refill_says.Post (Outcome Done (List ℤ)) (λ κs x s. outcome x s.1.0.now)
+refill_fixed κs a x y s t p q = outcome_apart x y (p ∙ sym q)
 
-pub enter-frame-fixed : Fixes 2 enter-frame.ps enter-frame.r enter-frame-says.Post (Outcome Done (List ℤ)) (λ κs x s. outcome x s.1.0.now)
-enter-frame-fixed κs a x y s t p q = outcome-apart x y (p ∙ sym q)
+pub enter_frame_fixed : Fixes 2 enter_frame.ps enter_frame.r enter_frame_says.Post (Outcome Done (List ℤ)) (λ κs x s. outcome x s.1.0.now)
+enter_frame_fixed κs a x y s t p q = outcome_apart x y (p ∙ sym q)

@@ -13,15 +13,15 @@ use Rattle.ground.specs.Checks.{Check, verdict}
 use Rattle.ground.specs.Answer.{Answer, Outcome, outcome, answer, after, outcome_by}
 use Rattle.ground.specs.Lists.{part, with_part}
 use Rattle.ground.proofs.Bools.{holds, and_left, and_right}
-use Rattle.ground.proofs.Parts.{part-kept, part-back, part-long, part_same, part-other, length-with}
-use Rattle.ground.proofs.Verdicts.{none-verdict, no-verdict, no-verdicts, rest-decides, first-decides, same_first}
+use Rattle.ground.proofs.Parts.{part-kept, part_back, part-long, part_same, part-other, length_with}
+use Rattle.ground.proofs.Verdicts.{none-verdict, no_verdict, no_verdicts, rest_decides, first_decides, same_first}
 use Rattle.settings.specs.Settings.{settings_checks}
 use Rattle.settings.specs.declared.Settings.{Settings}
-use Rattle.settings.proofs.Good.{settings-good, fits-ten}
+use Rattle.settings.proofs.Good.{settings_good, fits_ten}
 use Rattle.book.specs.Book.{Book, halves, Sized}
 use Rattle.book.specs.Asked.{book_checks}
-use Rattle.book.proofs.Asking.{both-sized}
-use Rattle.book.proofs.Halves.{halves-sized, halves-joined}
+use Rattle.book.proofs.Asking.{both_sized}
+use Rattle.book.proofs.Halves.{halves-sized, halves_joined}
 use Rattle.books.specs.Books.{book_from, with_book, books_checks}
 
 -- ---- where there is a part
@@ -31,25 +31,25 @@ pub record Has (t : ℕ) (l : List ℤ) : Type 0 where
   pub sender : t < 10
   pub long : length l ≡ 22220
 
-pub has-it : {t : ℕ} {l : List ℤ} → (ltb t 10 && eqb (length l) 22220) ≡ true → Has t l
-has-it {t} {l} e =
+pub has_it : {t : ℕ} {l : List ℤ} → (ltb t 10 && eqb (length l) 22220) ≡ true → Has t l
+has_it {t} {l} e =
     let h : T (ltb t 10 && eqb (length l) 22220) = rw e tt in
     record { sender = ltb→lt t 10 (and_left (ltb t 10) _ h); long = eqb→eq _ _ (and_right (ltb t 10) _ h) }
 
 -- a call that is not refused has its part
-pub asked-has : (s : Settings) (l : List ℤ) → verdict (books_checks s l) ≡ 0 → Has s.t l
-asked-has s l e =
-    let both = no-verdicts (settings_checks s) _ tt e in
-    let good = settings-good s both.0 in
-    record { sender = fits-ten s.rack good.turn.rack.few s.t good.turn.sender; long = eqb→eq _ _ (holds (eqb (length l) 22220) (no-verdict _ tt both.1).0) }
+pub asked_has : (s : Settings) (l : List ℤ) → verdict (books_checks s l) ≡ 0 → Has s.t l
+asked_has s l e =
+    let both = no_verdicts (settings_checks s) _ tt e in
+    let good = settings_good s both.0 in
+    record { sender = fits_ten s.rack good.turn.rack.few s.t good.turn.sender; long = eqb→eq _ _ (holds (eqb (length l) 22220) (no_verdict _ tt both.1).0) }
 
-pub good-has : (s : Settings) (l : List ℤ) → verdict (settings_checks s) ≡ 0 → length l ≡ 22220 → Has s.t l
-good-has s l good long = asked-has s l (rest-decides (settings_checks s) _ tt good ∙ none-verdict _ (ap not (eq-eqb (length l) 22220 long), tt))
+pub good_has : (s : Settings) (l : List ℤ) → verdict (settings_checks s) ≡ 0 → length l ≡ 22220 → Has s.t l
+good_has s l good long = asked_has s l (rest_decides (settings_checks s) _ tt good ∙ none-verdict _ (ap not (eq-eqb (length l) 22220 long), tt))
 
 -- and so one that has none is refused
-pub has-not : (s : Settings) (l : List ℤ) → (ltb s.t 10 && eqb (length l) 22220) ≡ false → verdict (books_checks s l) ≡ 0 → ⊥
-has-not s l e z =
-    let h = asked-has s l z in
+pub has_not : (s : Settings) (l : List ℤ) → (ltb s.t 10 && eqb (length l) 22220) ≡ false → verdict (books_checks s l) ≡ 0 → ⊥
+has_not s l e z =
+    let h = asked_has s l z in
     let w : ◌≡◌ {A = Bool} true false = sym (rw (lt-ltb s.t 10 h.sender, eq-eqb (length l) 22220 h.long) refl) ∙ e in
     true≢false w
 
@@ -60,50 +60,50 @@ module _ {t : ℕ} {l : List ℤ} (h : Has t l) where
   pub part-whole : length (part 2222 t l) ≡ 2222
   part-whole = part-long 2222 t l part_in
 
-  pub from-sized : Sized (book_from t l)
-  from-sized = halves-sized (part 2222 t l) part-whole
+  pub from_sized : Sized (book_from t l)
+  from_sized = halves-sized (part 2222 t l) part-whole
 
   -- ---- the sender's book in place of the old one
 
   -- the book that is there leaves the list as it is
-  with-same : with_book t l (book_from t l) ≡ l
-  with-same = ap (with_part 2222 t l) (take-append-drop 1111 (part 2222 t l)) ∙ part-kept 2222 t l
+  with_same : with_book t l (book_from t l) ≡ l
+  with_same = ap (with_part 2222 t l) (take-append-drop 1111 (part 2222 t l)) ∙ part-kept 2222 t l
 
-  joined-long : (b : Book) → Sized b → length (b.words ++ b.votes) ≡ 2222
-  joined-long b z = length-append b.words b.votes ∙ omega (arith, z.words_long, z.votes_long)
+  joined_long : (b : Book) → Sized b → length (b.words ++ b.votes) ≡ 2222
+  joined_long b z = length-append b.words b.votes ∙ omega (arith, z.words_long, z.votes_long)
 
   -- another is the sender's book from then on,
-  pub with-from : (b : Book) → Sized b → book_from t (with_book t l b) ≡ b
-  with-from b z =
-      ap halves (part_same 2222 t l part_in (b.words ++ b.votes) (joined-long b z))
-      ∙ halves-joined b.words b.votes z.words_long
+  pub with_from : (b : Book) → Sized b → book_from t (with_book t l b) ≡ b
+  with_from b z =
+      ap halves (part_same 2222 t l part_in (b.words ++ b.votes) (joined_long b z))
+      ∙ halves_joined b.words b.votes z.words_long
 
   -- and no other sender's part differs
-  pub with-other : (b : Book) → Sized b → (u : ℕ) → u ≢ t → part 2222 u (with_book t l b) ≡ part 2222 u l
-  with-other b z u o = part-other 2222 t l part_in (b.words ++ b.votes) (joined-long b z) u o
+  pub with_other : (b : Book) → Sized b → (u : ℕ) → u ≢ t → part 2222 u (with_book t l b) ≡ part 2222 u l
+  with_other b z u o = part-other 2222 t l part_in (b.words ++ b.votes) (joined_long b z) u o
 
   pub with-long : (b : Book) → Sized b → length (with_book t l b) ≡ length l
-  with-long b z = length-with 2222 t l part_in (b.words ++ b.votes) (joined-long b z)
+  with-long b z = length_with 2222 t l part_in (b.words ++ b.votes) (joined_long b z)
 
   -- ---- the part's call is the long list's
 
   -- the same checks
   pub same-verdict : (s : Settings) → verdict (book_checks s (book_from t l)) ≡ verdict (books_checks s l)
   same-verdict s =
-      first-decides (settings_checks s) _ tt (none-verdict _ (both-sized (book_from t l) from-sized, tt))
-      ∙ sym (first-decides (settings_checks s) _ tt (none-verdict _ (ap not (eq-eqb (length l) 22220 h.long), tt)))
+      first_decides (settings_checks s) _ tt (none-verdict _ (both_sized (book_from t l) from_sized, tt))
+      ∙ sym (first_decides (settings_checks s) _ tt (none-verdict _ (ap not (eq-eqb (length l) 22220 h.long), tt)))
 
   pub same_then : (s : Settings) (cs : List Check) → verdict (book_checks s (book_from t l) ++ cs) ≡ verdict (books_checks s l ++ cs)
   same_then s cs = same_first (book_checks s (book_from t l)) (books_checks s l) cs tt tt (same-verdict s)
 
   -- what it yields, and the part that it leaves in place of the old one
-  pub part-call : (made : Book) (new : List ℤ) (v : ℕ) {v' from : ℕ} {y : Answer (Unit {0})} → from ≡ 2222 * t → outcome y (halves new) ≡ outcome_by v (book_from t l) made → v ≡ v' → outcome y (take from l ++ (new ++ drop (from + 2222 - from) (drop from l))) ≡ outcome_by v' l (with_book t l made)
+  pub part_call : (made : Book) (new : List ℤ) (v : ℕ) {v' from : ℕ} {y : Answer (Unit {0})} → from ≡ 2222 * t → outcome y (halves new) ≡ outcome_by v (book_from t l) made → v ≡ v' → outcome y (take from l ++ (new ++ drop (from + 2222 - from) (drop from l))) ≡ outcome_by v' l (with_book t l made)
   unfolding outcome_by after
-  part-call made new v {y = y} e o same = rw (← same, part-back 2222 t l e new) (go v o)
+  part_call made new v {y = y} e o same = rw (← same, part_back 2222 t l e new) (go v o)
     where
-      joined-again : with_part 2222 t l new ≡ with_book t l (halves new)
-      joined-again = ap (with_part 2222 t l) (sym (take-append-drop 1111 new))
+      joined_again : with_part 2222 t l new ≡ with_book t l (halves new)
+      joined_again = ap (with_part 2222 t l) (sym (take-append-drop 1111 new))
 
       go : (v : ℕ) → outcome y (halves new) ≡ outcome (answer v tt) (after v (book_from t l) made) → outcome y (with_part 2222 t l new) ≡ outcome (answer v tt) (after v l (with_book t l made))
-      go zero o = ap₂ outcome (ap (λ (o : Outcome (Answer (Unit {0})) Book). o.yields) o) (joined-again ∙ ap (λ (o : Outcome (Answer (Unit {0})) Book). with_book t l o.leaves) o)
-      go (suc k) o = ap₂ outcome (ap (λ (o : Outcome (Answer (Unit {0})) Book). o.yields) o) (joined-again ∙ ap (λ (o : Outcome (Answer (Unit {0})) Book). with_book t l o.leaves) o ∙ with-same)
+      go zero o = ap₂ outcome (ap (λ (o : Outcome (Answer (Unit {0})) Book). o.yields) o) (joined_again ∙ ap (λ (o : Outcome (Answer (Unit {0})) Book). with_book t l o.leaves) o)
+      go (suc k) o = ap₂ outcome (ap (λ (o : Outcome (Answer (Unit {0})) Book). o.yields) o) (joined_again ∙ ap (λ (o : Outcome (Answer (Unit {0})) Book). with_book t l o.leaves) o ∙ with_same)

@@ -9,16 +9,16 @@ use Rattle.bound.specs.declared.Bounded.TheVariants as bounded'
 use Rattle.bound.proofs.bound.Kinds as bound
 use Rattle.bound.proofs.bound.Reads as bound_says
 
-bounded-apart : (x y : Bounded) → of_bounded x ≡ of_bounded y → x ≡ y
-bounded-apart bounded'.Held bounded'.Held e = refl
-bounded-apart bounded'.Held bounded'.NotHeld e = let z : ◌≡◌ {A = ℕ} 0 1 = cc e in absurd (omega arith)
-bounded-apart bounded'.Held (bounded'.Refused k) e = let z : ◌≡◌ {A = ℕ} 0 1 = cc e in absurd (omega arith)
-bounded-apart bounded'.NotHeld bounded'.Held e = let z : ◌≡◌ {A = ℕ} 0 1 = cc e in absurd (omega arith)
-bounded-apart bounded'.NotHeld bounded'.NotHeld e = refl
-bounded-apart bounded'.NotHeld (bounded'.Refused k) e = let z : ◌≡◌ {A = ℕ} 0 1 = cc e in absurd (omega arith)
-bounded-apart (bounded'.Refused k) bounded'.Held e = let z : ◌≡◌ {A = ℕ} 0 1 = cc e in absurd (omega arith)
-bounded-apart (bounded'.Refused k) bounded'.NotHeld e = let z : ◌≡◌ {A = ℕ} 0 1 = cc e in absurd (omega arith)
-bounded-apart (bounded'.Refused k) (bounded'.Refused j) e = ap bounded'.Refused (cc e)
+bounded_apart : (x y : Bounded) → of_bounded x ≡ of_bounded y → x ≡ y
+bounded_apart bounded'.Held bounded'.Held e = refl
+bounded_apart bounded'.Held bounded'.NotHeld e = let z : ◌≡◌ {A = ℕ} 0 1 = cc e in absurd (omega arith)
+bounded_apart bounded'.Held (bounded'.Refused k) e = let z : ◌≡◌ {A = ℕ} 0 1 = cc e in absurd (omega arith)
+bounded_apart bounded'.NotHeld bounded'.Held e = let z : ◌≡◌ {A = ℕ} 0 1 = cc e in absurd (omega arith)
+bounded_apart bounded'.NotHeld bounded'.NotHeld e = refl
+bounded_apart bounded'.NotHeld (bounded'.Refused k) e = let z : ◌≡◌ {A = ℕ} 0 1 = cc e in absurd (omega arith)
+bounded_apart (bounded'.Refused k) bounded'.Held e = let z : ◌≡◌ {A = ℕ} 0 1 = cc e in absurd (omega arith)
+bounded_apart (bounded'.Refused k) bounded'.NotHeld e = let z : ◌≡◌ {A = ℕ} 0 1 = cc e in absurd (omega arith)
+bounded_apart (bounded'.Refused k) (bounded'.Refused j) e = ap bounded'.Refused (cc e)
 
-pub bound-fixed : Fixes 1 bound.ps bound.r bound_says.Post Bounded (λ κs x s. x)
-bound-fixed κs a x y s t p q = bounded-apart x y (p ∙ sym q)
+pub bound_fixed : Fixes 1 bound.ps bound.r bound_says.Post Bounded (λ κs x s. x)
+bound_fixed κs a x y s t p q = bounded_apart x y (p ∙ sym q)

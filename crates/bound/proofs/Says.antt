@@ -20,8 +20,8 @@ module _ (rack : Rack) (status : ℕ → Status) where
   enough_says = (ltb-true _ (cards rack), lt-ltb _ (cards rack))
 
   -- and a is at most m
-  pub bounded-says : (bounded rack status ≡ true) ↔ (Enough rack status × (arbitraries rack status ≤ rack.m))
+  pub bounded_says : (bounded rack status ≡ true) ↔ (Enough rack status × (arbitraries rack status ≤ rack.m))
   unfolding bounded
-  bounded-says =
+  bounded_says =
       let both = and-eq-true_iff (enough rack status) (leb (arbitraries rack status) rack.m) in
       (λ e. (enough_says.0 (both.0 e).0, leb-true _ rack.m (both.0 e).1), λ h. both.1 (enough_says.1 h.0, le-leb _ rack.m h.1))

@@ -10,23 +10,23 @@ use Rattle.words.specs.Rule.{Rule}
 use Rattle.settings.specs.Settings.{slots}
 use Rattle.paths.specs.Slots.{below, level}
 use Rattle.paths.specs.Walk.{may, through, put_in}
-use Rattle.paths.proofs.Levels.{level-small, level-below}
+use Rattle.paths.proofs.Levels.{level_small, level-below}
 use Rattle.paths.proofs.Handed.{put_back}
-use Rattle.paths.proofs.Walk.{put_last, put-more, through-yes, through-no, through-all}
+use Rattle.paths.proofs.Walk.{put_last, put_more, through_yes, through_no, through-all}
 use Rattle.exchange.specs.Exchange.{exchange}
 use Rattle.exchange.specs.Sending.{sent_to}
-use Rattle.exchange.proofs.Dealing.{only-good, sends-below}
+use Rattle.exchange.proofs.Dealing.{only_good, sends_below}
 use Rattle.dealing.specs.DealOrder.{DealsFrom, dealt_to, DealtFrom, DealtBelow}
 
 module _ {statuses : List ℕ} {table : List ℤ} {p d k : ℕ} {words : List ℤ} {cards : List Bool} (r : ℕ) (pre : DealsFrom statuses table p words cards (r + 1) d k) where
   -- where a round is left, the slot has room for a longer path
-  pub deals-small : k < 111
-  deals-small = level-small k pre.slot (omega (arith, pre.here, pre.deep))
+  pub deals_small : k < 111
+  deals_small = level_small k pre.slot (omega (arith, pre.here, pre.deep))
 
   -- one relay longer
-  pub deals-below : {q : ℕ} → q < 10 → {words' : List ℤ} {members : List Bool} → length words' ≡ slots → length members ≡ length cards → DealsFrom statuses table p words' members r (d + 1) (below k q)
-  deals-below {q} h long same =
-      let small = deals-small in
+  pub deals_below : {q : ℕ} → q < 10 → {words' : List ℤ} {members : List Bool} → length words' ≡ slots → length members ≡ length cards → DealsFrom statuses table p words' members r (d + 1) (below k q)
+  deals_below {q} h long same =
+      let small = deals_small in
       record {
         statuses_long = pre.statuses_long;
         table_long = pre.table_long;
@@ -42,15 +42,15 @@ module _ {R : Rule} {statuses : List ℕ} {table : List ℤ} {p : ℕ} {cards : 
   -- ---- a word in its place
 
   module _ {v : ℤ} (e : v ≡ sent_to status word table k p) {words : List ℤ} {members : List Bool} where
-    pub deal-last : r ≤ 0 → words ≡ before → members ≡ cards → DealtFrom R statuses table p cards r d k status word before (set words k v) members
-    deal-last z f g = record {
+    pub deal_last : r ≤ 0 → words ≡ before → members ≡ cards → DealtFrom R statuses table p cards r d k status word before (set words k v) members
+    deal_last z f g = record {
       words = λ turn x s. rw f (put_last (dealt_to R (exchange turn x statuses table) p) cards r d k before (omega (arith, z)) (e ∙ s p));
       members = g;
     }
 
-    pub deal-more : 0 < r → {w : ℤ} {after : List ℤ} {held : List Bool} → w ≡ word → DealtBelow R statuses table p cards (r - 1) d k status w before 10 after held → words ≡ after → members ≡ held → DealtFrom R statuses table p cards r d k status word before (set words k v) members
-    deal-more n same b f g = record {
-      words = λ turn x s. put-more (dealt_to R (exchange turn x statuses table) p) cards r d k before (λ z. omega (arith, n, z)) (e ∙ s p) (f ∙ b.words turn x (rw same s));
+    pub deal_more : 0 < r → {w : ℤ} {after : List ℤ} {held : List Bool} → w ≡ word → DealtBelow R statuses table p cards (r - 1) d k status w before 10 after held → words ≡ after → members ≡ held → DealtFrom R statuses table p cards r d k status word before (set words k v) members
+    deal_more n same b f g = record {
+      words = λ turn x s. put_more (dealt_to R (exchange turn x statuses table) p) cards r d k before (λ z. omega (arith, n, z)) (e ∙ s p) (f ∙ b.words turn x (rw same s));
       members = g ∙ b.members;
     }
 
@@ -66,16 +66,16 @@ module _ {R : Rule} {statuses : List ℕ} {table : List ℤ} {p : ℕ} {cards : 
     below_more h l g t e one f n = record {
       words = λ turn x s.
           let X = exchange turn x statuses table in
-          through-yes (may cards) _ before q (rw (← b.members) t)
+          through_yes (may cards) _ before q (rw (← b.members) t)
           (f
-          ∙ one.words turn x (λ p. only-good (get_or statuses q 0) _ _ _ _ e ∙ sends-below R X d k q _ word h l g refl s p)
+          ∙ one.words turn x (λ p. only_good (get_or statuses q 0) _ _ _ _ e ∙ sends_below R X d k q _ word h l g refl s p)
           ∙ ap₂ (λ (l : List Bool) (ws : List ℤ). put_in (dealt_to R X p) (set l q false) r (d + 1) (below k q) ws) b.members (b.words turn x s));
       members = n ∙ put_back members _ q t one.members ∙ b.members;
     }
 
     pub below-same : may members q ≡ false → words' ≡ words → members' ≡ members → DealtBelow R statuses table p cards r d k status word before (q + 1) words' members'
     below-same t f n = record {
-      words = λ turn x s. through-no (may cards) _ before q (rw (← b.members) t) (f ∙ b.words turn x s);
+      words = λ turn x s. through_no (may cards) _ before q (rw (← b.members) t) (f ∙ b.words turn x s);
       members = n ∙ b.members;
     }
 

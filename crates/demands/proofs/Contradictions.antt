@@ -10,7 +10,7 @@ use Rattle.ground.specs.Checks.{verdict}
 use Rattle.ground.specs.Answer.{value, refused, after, outcome_by}
 use Rattle.ground.specs.Lists.{at}
 use Rattle.ground.proofs.Answers.{value-verdict, refused-verdict, refused-leaves}
-use Rattle.ground.proofs.Verdicts.{no-verdicts}
+use Rattle.ground.proofs.Verdicts.{no_verdicts}
 use Rattle.words.specs.Word.{E, kind_of, read_at}
 use Rattle.settings.specs.Settings.{slots, turn_of, settings_checks}
 use Rattle.settings.specs.declared.Settings.{Settings}
@@ -22,21 +22,21 @@ use Rattle.entering.specs.Entered.{contradicted}
 use Rattle.entering.specs.Asked.{enter_asked}
 use Rattle.entering.specs.Run.{Entry}
 use Rattle.entering.specs.Accepted.{accepted_at, repeats}
-use Rattle.entering.proofs.Holding.{left-agreed, repeated}
+use Rattle.entering.proofs.Holding.{left_agreed, repeated}
 use Rattle.entering.proofs.FromOpening.{opened-word}
 use Rattle.arrivals.specs.Entry.{frame_asked}
 use Rattle.arrivals.specs.Run.{Arrival, entries_of, arrived, open_arrived}
-use Rattle.arrivals.proofs.Runs.{refused-keeps}
+use Rattle.arrivals.proofs.Runs.{refused_keeps}
 use Rattle.books.specs.Books.{books_words, book_from}
 use Rattle.books.specs.Run.{Mixed, called, open_called, own_of}
-use Rattle.books.proofs.Parts.{from-sized, good-has}
-use Rattle.books.proofs.Runs.{mixed-run}
+use Rattle.books.proofs.Parts.{from_sized, good_has}
+use Rattle.books.proofs.Runs.{mixed_run}
 use Rattle.exchange.specs.Exchange.{exchange, dealt, answer_of}
 use Rattle.bench.specs.Asked.{answer_checks, answer_for_asked}
 use Rattle.dealing.specs.Asked.{fill_checks, fill_asked}
-use Rattle.dealing.proofs.Filling.{filled-word}
+use Rattle.dealing.proofs.Filling.{filled_word}
 use Rattle.demands.proofs.Cards.{holds-dealt}
-use Rattle.demands.proofs.Runs.{stays-arrived, stays-called}
+use Rattle.demands.proofs.Runs.{stays_arrived, stays_called}
 
 -- On each live path of s the words accepted are the one that the exchange deals there, once or more often.
 abbrev pub OnlyDealt : Settings → ℤ → List ℕ → List ℤ → List Entry → Type 0
@@ -70,26 +70,26 @@ module _ (s : Settings) (x : ℤ) (statuses : List ℕ) (words : List ℤ) (w : 
   told = value-verdict _ (verdict (answer_checks s x statuses words)) e
 
   checked : verdict (settings_checks s) ≡ 0
-  checked = (no-verdicts (settings_checks s) _ tt told.0).0
+  checked = (no_verdicts (settings_checks s) _ tt told.0).0
 
   dealt-again : (b : Book) → Sized b → (xs : List Arrival) → OnlyDealt s x statuses words (entries_of s xs) → held_asked (open_arrived s b xs) ≡ value w
   dealt-again b z xs h =
-      holds-dealt (exchange (turn_of s) x statuses words) s.p checked b z xs (λ k t. left-agreed s k (entries_of s xs) ∙ repeated _ _ (h k t)) ∙ ap value told.1
+      holds-dealt (exchange (turn_of s) x statuses words) s.p checked b z xs (λ k t. left_agreed s k (entries_of s xs) ∙ repeated _ _ (h k t)) ∙ ap value told.1
 
   dealt-again-long : (l : List ℤ) → length l ≡ books_words → (xs : List (Mixed s)) → OnlyDealt s x statuses words (entries_of s (own_of s xs)) → held_asked (book_from s.t (open_called s l xs)) ≡ value w
   dealt-again-long l long xs h =
-      ap held_asked (mixed-run s checked l long xs) ∙ dealt-again (book_from s.t l) (from-sized (good-has s l checked long)) (own_of s xs) h
+      ap held_asked (mixed_run s checked l long xs) ∙ dealt-again (book_from s.t l) (from_sized (good_has s l checked long)) (own_of s xs) h
 
 pub contradictions : (s : Settings) → Contradictions s
 contradictions s = record {
   reads = λ d. unfold read_at kind_of in refl;
-  stays = λ b xs k. stays-arrived s xs b k;
-  stays_long = λ good l long xs k. stays-called s good xs l long k;
+  stays = λ b xs k. stays_arrived s xs b k;
+  stays_long = λ good l long xs k. stays_called s good xs l long k;
   refused_word = λ b k w r e. unfold outcome_by in refused-leaves (verdict (slot_checks s b k)) b _ (refused-verdict tt _ e).1;
-  refused_frame = refused-keeps s;
+  refused_frame = refused_keeps s;
   opened = λ b e k h. unfold outcome_by after in rw (value-verdict tt (verdict (book_checks s b)) e).0 (opened-word (rule_of s.rack) k h);
   filled = λ x statuses words b e k h. unfold fill_asked outcome_by after in
-      rw (value-verdict tt (verdict (fill_checks s x statuses words b)) e).0 (filled-word (rule_of s.rack) (exchange (turn_of s) x statuses words) s.p b k h);
+      rw (value-verdict tt (verdict (fill_checks s x statuses words b)) e).0 (filled_word (rule_of s.rack) (exchange (turn_of s) x statuses words) s.p b k h);
   told_again = dealt-again s;
   told_again_long = dealt-again-long s;
 }

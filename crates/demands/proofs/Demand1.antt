@@ -20,243 +20,243 @@ use Rattle.dealing.specs.Asked.{word_checks, word_asked, fill_checks, fill_asked
 use Rattle.bound.specs.Bound.{of_bounded, bound_checks, bound_asked}
 use Rattle.files.specs.File.{of_headed, file_checks, file_asked}
 use Rattle.demands.specs.Refusing.{Refuses, Numbers, Judged, Counted}
-use Rattle.demands.proofs.Order.{by_answer, by-outcome, by_part, by_state, by-verdict}
+use Rattle.demands.proofs.Order.{by_answer, by_outcome, by_part, by_state, by_verdict}
 use Rattle.settings.proofs.Settings.new.Kinds as new
-use Rattle.settings.proofs.Settings.new.Reads as new-says
+use Rattle.settings.proofs.Settings.new.Reads as new_says
 use Rattle.paths.proofs.slot_of.Kinds as slot_of
-use Rattle.paths.proofs.slot_of.Reads as slot-of-says
-use Rattle.paths.proofs.slot_above.Kinds as slot-above
-use Rattle.paths.proofs.slot_above.Reads as slot-above-says
+use Rattle.paths.proofs.slot_of.Reads as slot_of_says
+use Rattle.paths.proofs.slot_above.Kinds as slot_above
+use Rattle.paths.proofs.slot_above.Reads as slot_above_says
 use Rattle.paths.proofs.is_live.Kinds as is_live
-use Rattle.paths.proofs.is_live.Reads as is-live-says
-use Rattle.vote.proofs.vote_at.Kinds as vote-at
-use Rattle.vote.proofs.vote_at.Reads as vote-at-says
+use Rattle.paths.proofs.is_live.Reads as is_live_says
+use Rattle.vote.proofs.vote_at.Kinds as vote_at
+use Rattle.vote.proofs.vote_at.Reads as vote_at_says
 use Rattle.vote.proofs.answer.Kinds as answer
-use Rattle.vote.proofs.answer.Reads as answer-says
+use Rattle.vote.proofs.answer.Reads as answer_says
 use Rattle.book.proofs.open.Kinds as opening
-use Rattle.book.proofs.open.Reads as opening-says
+use Rattle.book.proofs.open.Reads as opening_says
 use Rattle.entering.proofs.enter.Kinds as enter
-use Rattle.entering.proofs.enter.Reads as enter-says
+use Rattle.entering.proofs.enter.Reads as enter_says
 use Rattle.refilling.proofs.refill.Kinds as refill
-use Rattle.refilling.proofs.refill.Reads as refill-says
-use Rattle.book.proofs.open_part.Kinds as open-part
-use Rattle.book.proofs.open_part.Reads as open-part-says
-use Rattle.entering.proofs.enter_part.Kinds as enter-part
-use Rattle.entering.proofs.enter_part.Reads as enter-part-says
-use Rattle.refilling.proofs.refill_part.Kinds as refill-part
-use Rattle.refilling.proofs.refill_part.Reads as refill-part-says
+use Rattle.refilling.proofs.refill.Reads as refill_says
+use Rattle.book.proofs.open_part.Kinds as open_part
+use Rattle.book.proofs.open_part.Reads as open_part_says
+use Rattle.entering.proofs.enter_part.Kinds as enter_part
+use Rattle.entering.proofs.enter_part.Reads as enter_part_says
+use Rattle.refilling.proofs.refill_part.Kinds as refill_part
+use Rattle.refilling.proofs.refill_part.Reads as refill_part_says
 use Rattle.book.proofs.held_answer.Kinds as held_answer
-use Rattle.book.proofs.held_answer.Reads as held-answer-says
-use Rattle.books.proofs.open.Kinds as books-open
-use Rattle.books.proofs.open.Reads as books-open-says
-use Rattle.books.proofs.enter.Kinds as books-enter
-use Rattle.books.proofs.enter.Reads as books-enter-says
-use Rattle.books.proofs.refill.Kinds as books-refill
-use Rattle.books.proofs.refill.Reads as books-refill-says
+use Rattle.book.proofs.held_answer.Reads as held_answer_says
+use Rattle.books.proofs.open.Kinds as books_open
+use Rattle.books.proofs.open.Reads as books_open_says
+use Rattle.books.proofs.enter.Kinds as books_enter
+use Rattle.books.proofs.enter.Reads as books_enter_says
+use Rattle.books.proofs.refill.Kinds as books_refill
+use Rattle.books.proofs.refill.Reads as books_refill_says
 use Rattle.frames.proofs.read.Kinds as read
-use Rattle.frames.proofs.read.Reads as read-says
+use Rattle.frames.proofs.read.Reads as read_says
 use Rattle.frames.proofs.write.Kinds as write
-use Rattle.frames.proofs.write.Reads as write-says
-use Rattle.arrivals.proofs.enter.Kinds as enter-frame
-use Rattle.arrivals.proofs.enter.Reads as enter-frame-says
+use Rattle.frames.proofs.write.Reads as write_says
+use Rattle.arrivals.proofs.enter.Kinds as enter_frame
+use Rattle.arrivals.proofs.enter.Reads as enter_frame_says
 use Rattle.arrivals.proofs.entry_of.Kinds as entry_of
-use Rattle.arrivals.proofs.entry_of.Reads as entry-of-says
-use Rattle.books.proofs.enter_frame.Kinds as books-enter-frame
-use Rattle.books.proofs.enter_frame.Reads as books-enter-frame-says
-use Rattle.dealing.proofs.word_for.Kinds as word-for
-use Rattle.dealing.proofs.word_for.Reads as word-for-says
-use Rattle.bench.proofs.answer_for.Kinds as answer-for
-use Rattle.bench.proofs.answer_for.Reads as answer-for-says
+use Rattle.arrivals.proofs.entry_of.Reads as entry_of_says
+use Rattle.books.proofs.enter_frame.Kinds as books_enter_frame
+use Rattle.books.proofs.enter_frame.Reads as books_enter_frame_says
+use Rattle.dealing.proofs.word_for.Kinds as word_for
+use Rattle.dealing.proofs.word_for.Reads as word_for_says
+use Rattle.bench.proofs.answer_for.Kinds as answer_for
+use Rattle.bench.proofs.answer_for.Reads as answer_for_says
 use Rattle.bench.proofs.all_answers.Kinds as all_answers
-use Rattle.bench.proofs.all_answers.Reads as all-answers-says
+use Rattle.bench.proofs.all_answers.Reads as all_answers_says
 use Rattle.dealing.proofs.fill.Kinds as fill
-use Rattle.dealing.proofs.fill.Reads as fill-says
+use Rattle.dealing.proofs.fill.Reads as fill_says
 use Rattle.bound.proofs.bound.Kinds as bound
 use Rattle.bound.proofs.bound.Reads as bound_says
-use Rattle.outcomes.proofs.set_row.Kinds as set-row
-use Rattle.outcomes.proofs.set_row.Reads as set-row-says
-use Rattle.outcomes.proofs.start_list.Kinds as start-list
-use Rattle.outcomes.proofs.start_list.Reads as start-list-says
-use Rattle.outcomes.proofs.set_in_list.Kinds as set-in-list
-use Rattle.outcomes.proofs.set_in_list.Reads as set-in-list-says
-use Rattle.files.proofs.read.Kinds as read-file
-use Rattle.files.proofs.read.Reads as read-file-says
-use Rattle.settings.proofs.rack_refused.Kinds as rack-refused
-use Rattle.settings.proofs.rack_refused.Reads as rack-refused-says
-use Rattle.settings.proofs.turn_refused.Kinds as turn-refused
-use Rattle.settings.proofs.turn_refused.Reads as turn-refused-says
-use Rattle.settings.proofs.settings_refused.Kinds as settings-refused
-use Rattle.settings.proofs.settings_refused.Reads as settings-refused-says
-use Rattle.book.proofs.book_refused.Kinds as book-refused
-use Rattle.book.proofs.book_refused.Reads as book-refused-says
-use Rattle.book.proofs.part_refused.Kinds as part-refused
-use Rattle.book.proofs.part_refused.Reads as part-refused-says
-use Rattle.books.proofs.books_refused.Kinds as books-refused
-use Rattle.books.proofs.books_refused.Reads as books-refused-says
-use Rattle.frames.proofs.refused.Kinds as bytes-refused
-use Rattle.frames.proofs.refused.Reads as bytes-refused-says
-use Rattle.exchange.proofs.statuses_refused.Kinds as statuses-refused
-use Rattle.exchange.proofs.statuses_refused.Reads as statuses-refused-says
-use Rattle.exchange.proofs.values_refused.Kinds as values-refused
-use Rattle.exchange.proofs.values_refused.Reads as values-refused-says
+use Rattle.outcomes.proofs.set_row.Kinds as set_row
+use Rattle.outcomes.proofs.set_row.Reads as set_row_says
+use Rattle.outcomes.proofs.start_list.Kinds as start_list
+use Rattle.outcomes.proofs.start_list.Reads as start_list_says
+use Rattle.outcomes.proofs.set_in_list.Kinds as set_in_list
+use Rattle.outcomes.proofs.set_in_list.Reads as set_in_list_says
+use Rattle.files.proofs.read.Kinds as read_file
+use Rattle.files.proofs.read.Reads as read_file_says
+use Rattle.settings.proofs.rack_refused.Kinds as rack_refused
+use Rattle.settings.proofs.rack_refused.Reads as rack_refused_says
+use Rattle.settings.proofs.turn_refused.Kinds as turn_refused
+use Rattle.settings.proofs.turn_refused.Reads as turn_refused_says
+use Rattle.settings.proofs.settings_refused.Kinds as settings_refused
+use Rattle.settings.proofs.settings_refused.Reads as settings_refused_says
+use Rattle.book.proofs.book_refused.Kinds as book_refused
+use Rattle.book.proofs.book_refused.Reads as book_refused_says
+use Rattle.book.proofs.part_refused.Kinds as part_refused
+use Rattle.book.proofs.part_refused.Reads as part_refused_says
+use Rattle.books.proofs.books_refused.Kinds as books_refused
+use Rattle.books.proofs.books_refused.Reads as books_refused_says
+use Rattle.frames.proofs.refused.Kinds as bytes_refused
+use Rattle.frames.proofs.refused.Reads as bytes_refused_says
+use Rattle.exchange.proofs.statuses_refused.Kinds as statuses_refused
+use Rattle.exchange.proofs.statuses_refused.Reads as statuses_refused_says
+use Rattle.exchange.proofs.values_refused.Kinds as values_refused
+use Rattle.exchange.proofs.values_refused.Reads as values_refused_says
 
 -- ---- settings and paths
 
-pub new-refuses : Allows 0 new.ps new.r new-says.Post (λ κs a x s. Judged (settings_checks (settings a.0 a.1.0 a.1.1.0 a.1.1.1.0)) (of_checked x))
-new-refuses κs a x s p = by_answer _ _ p
+pub new_refuses : Allows 0 new.ps new.r new_says.Post (λ κs a x s. Judged (settings_checks (settings a.0 a.1.0 a.1.1.0 a.1.1.1.0)) (of_checked x))
+new_refuses κs a x s p = by_answer _ _ p
 
-pub slot-of-refuses : Allows 0 slot_of.ps slot_of.r slot-of-says.Post (λ κs a x s. Judged (path_checks a.0 a.1.0 a.1.1.0 a.1.1.1.0) (of_place x))
+pub slot_of_refuses : Allows 0 slot_of.ps slot_of.r slot_of_says.Post (λ κs a x s. Judged (path_checks a.0 a.1.0 a.1.1.0 a.1.1.1.0) (of_place x))
 unfolding slot_asked
-slot-of-refuses κs a x s p = by_answer _ _ p
+slot_of_refuses κs a x s p = by_answer _ _ p
 
-pub slot-above-refuses : Allows 0 slot-above.ps slot-above.r slot-above-says.Post (λ κs a x s. Judged (above_checks a.0) (of_place x))
+pub slot_above_refuses : Allows 0 slot_above.ps slot_above.r slot_above_says.Post (λ κs a x s. Judged (above_checks a.0) (of_place x))
 unfolding above_asked
-slot-above-refuses κs a x s p = by_answer _ _ p
+slot_above_refuses κs a x s p = by_answer _ _ p
 
-pub is-live-refuses : Allows 0 is_live.ps is_live.r is-live-says.Post (λ κs a x s. Judged (settings_checks a.0) (of_liveness x))
+pub is_live_refuses : Allows 0 is_live.ps is_live.r is_live_says.Post (λ κs a x s. Judged (settings_checks a.0) (of_liveness x))
 unfolding live_asked
-is-live-refuses κs a x s p = by_answer _ _ p
+is_live_refuses κs a x s p = by_answer _ _ p
 
 -- ---- the vote
 
-pub vote-at-refuses : Allows 1 vote-at.ps vote-at.r vote-at-says.Post (λ κs a x s. Judged (vote_checks a.0 a.1.0.now a.1.1.0) (of_told x))
+pub vote_at_refuses : Allows 1 vote_at.ps vote_at.r vote_at_says.Post (λ κs a x s. Judged (vote_checks a.0 a.1.0.now a.1.1.0) (of_told x))
 unfolding vote_asked
-vote-at-refuses κs a x s p = by_answer _ _ p
+vote_at_refuses κs a x s p = by_answer _ _ p
 
-pub answer-refuses : Allows 1 answer.ps answer.r answer-says.Post (λ κs a x s. Judged (words_checks a.0 a.1.0.now) (of_told x))
+pub answer_refuses : Allows 1 answer.ps answer.r answer_says.Post (λ κs a x s. Judged (words_checks a.0 a.1.0.now) (of_told x))
 unfolding vote.answer_asked
-answer-refuses κs a x s p = by_answer _ _ p
+answer_refuses κs a x s p = by_answer _ _ p
 
 -- ---- the book
 
-pub opening-refuses : Allows 2 opening.ps opening.r opening-says.Post (λ κs a x s. Refuses (book_checks a.0 (book_of a.1.0.now a.1.1.0.now)) (of_done x) (book_of a.1.0.now a.1.1.0.now) (book_of s.1.0.now s.1.1.0.now))
-opening-refuses κs a x s p = by-outcome _ _ p
+pub opening_refuses : Allows 2 opening.ps opening.r opening_says.Post (λ κs a x s. Refuses (book_checks a.0 (book_of a.1.0.now a.1.1.0.now)) (of_done x) (book_of a.1.0.now a.1.1.0.now) (book_of s.1.0.now s.1.1.0.now))
+opening_refuses κs a x s p = by_outcome _ _ p
 
-pub enter-refuses : Allows 2 enter.ps enter.r enter-says.Post (λ κs a x s. Refuses (slot_checks a.0 (book_of a.1.0.now a.1.1.0.now) a.1.1.1.0) (of_done x) (book_of a.1.0.now a.1.1.0.now) (book_of s.1.0.now s.1.1.0.now))
-enter-refuses κs a x s p = by-outcome _ _ p
+pub enter_refuses : Allows 2 enter.ps enter.r enter_says.Post (λ κs a x s. Refuses (slot_checks a.0 (book_of a.1.0.now a.1.1.0.now) a.1.1.1.0) (of_done x) (book_of a.1.0.now a.1.1.0.now) (book_of s.1.0.now s.1.1.0.now))
+enter_refuses κs a x s p = by_outcome _ _ p
 
 -- its words are lent to be read only
-pub refill-refuses : Allows 2 refill.ps refill.r refill-says.Post (λ κs a x s. Refuses (book_checks a.0 (book_of a.1.0.now a.1.1.0.now)) (of_done x) (book_of a.1.0.now a.1.1.0.now) (book_of a.1.0.now s.1.1.0.now))
-refill-refuses κs a x s p = by-outcome _ _ p
+pub refill_refuses : Allows 2 refill.ps refill.r refill_says.Post (λ κs a x s. Refuses (book_checks a.0 (book_of a.1.0.now a.1.1.0.now)) (of_done x) (book_of a.1.0.now a.1.1.0.now) (book_of a.1.0.now s.1.1.0.now))
+refill_refuses κs a x s p = by_outcome _ _ p
 
-pub held-answer-refuses : Allows 2 held_answer.ps held_answer.r held-answer-says.Post (λ κs a x s. Judged (held_checks (book_of a.0.now a.1.0.now)) (of_told x))
-held-answer-refuses κs a x s p = by_answer _ _ p
+pub held_answer_refuses : Allows 2 held_answer.ps held_answer.r held_answer_says.Post (λ κs a x s. Judged (held_checks (book_of a.0.now a.1.0.now)) (of_told x))
+held_answer_refuses κs a x s p = by_answer _ _ p
 
 -- ---- a book in one list
 
-pub open-part-refuses : Allows 1 open-part.ps open-part.r open-part-says.Post (λ κs a x s. Refuses (book_checks a.0 (halves a.1.0.now)) (of_done x) a.1.0.now s.1.0.now)
-open-part-refuses κs a x s p = by_part _ _ p
+pub open_part_refuses : Allows 1 open_part.ps open_part.r open_part_says.Post (λ κs a x s. Refuses (book_checks a.0 (halves a.1.0.now)) (of_done x) a.1.0.now s.1.0.now)
+open_part_refuses κs a x s p = by_part _ _ p
 
-pub enter-part-refuses : Allows 1 enter-part.ps enter-part.r enter-part-says.Post (λ κs a x s. Refuses (slot_checks a.0 (halves a.1.0.now) a.1.1.0) (of_done x) a.1.0.now s.1.0.now)
-enter-part-refuses κs a x s p = by_part _ _ p
+pub enter_part_refuses : Allows 1 enter_part.ps enter_part.r enter_part_says.Post (λ κs a x s. Refuses (slot_checks a.0 (halves a.1.0.now) a.1.1.0) (of_done x) a.1.0.now s.1.0.now)
+enter_part_refuses κs a x s p = by_part _ _ p
 
-pub refill-part-refuses : Allows 1 refill-part.ps refill-part.r refill-part-says.Post (λ κs a x s. Refuses (book_checks a.0 (halves a.1.0.now)) (of_done x) a.1.0.now s.1.0.now)
-refill-part-refuses κs a x s p = by_part _ _ p
+pub refill_part_refuses : Allows 1 refill_part.ps refill_part.r refill_part_says.Post (λ κs a x s. Refuses (book_checks a.0 (halves a.1.0.now)) (of_done x) a.1.0.now s.1.0.now)
+refill_part_refuses κs a x s p = by_part _ _ p
 
 -- ---- the long list
 
-pub books-open-refuses : Allows 1 books-open.ps books-open.r books-open-says.Post (λ κs a x s. Refuses (books_checks a.0 a.1.0.now) (of_done x) a.1.0.now s.1.0.now)
+pub books_open_refuses : Allows 1 books_open.ps books_open.r books_open_says.Post (λ κs a x s. Refuses (books_checks a.0 a.1.0.now) (of_done x) a.1.0.now s.1.0.now)
 unfolding books_open_asked
-books-open-refuses κs a x s p = by-outcome _ _ p
+books_open_refuses κs a x s p = by_outcome _ _ p
 
-pub books-enter-refuses : Allows 1 books-enter.ps books-enter.r books-enter-says.Post (λ κs a x s. Refuses (books_slot_checks a.0 a.1.0.now a.1.1.0) (of_done x) a.1.0.now s.1.0.now)
+pub books_enter_refuses : Allows 1 books_enter.ps books_enter.r books_enter_says.Post (λ κs a x s. Refuses (books_slot_checks a.0 a.1.0.now a.1.1.0) (of_done x) a.1.0.now s.1.0.now)
 unfolding books_enter_asked
-books-enter-refuses κs a x s p = by-outcome _ _ p
+books_enter_refuses κs a x s p = by_outcome _ _ p
 
-pub books-refill-refuses : Allows 1 books-refill.ps books-refill.r books-refill-says.Post (λ κs a x s. Refuses (books_checks a.0 a.1.0.now) (of_done x) a.1.0.now s.1.0.now)
+pub books_refill_refuses : Allows 1 books_refill.ps books_refill.r books_refill_says.Post (λ κs a x s. Refuses (books_checks a.0 a.1.0.now) (of_done x) a.1.0.now s.1.0.now)
 unfolding books_refill_asked
-books-refill-refuses κs a x s p = by-outcome _ _ p
+books_refill_refuses κs a x s p = by_outcome _ _ p
 
 -- ---- frames
 
-pub read-refuses : Allows 1 read.ps read.r read-says.Post (λ κs a x s. Judged (read_checks a.0.now) (of_parsed x))
+pub read_refuses : Allows 1 read.ps read.r read_says.Post (λ κs a x s. Judged (read_checks a.0.now) (of_parsed x))
 unfolding read_asked
-read-refuses κs a x s p = by_answer _ _ p
+read_refuses κs a x s p = by_answer _ _ p
 
-pub write-refuses : Allows 1 write.ps write.r write-says.Post (λ κs a x s. Refuses (write_checks a.0 a.1.0.now) (of_done x) a.1.0.now s.1.0.now)
+pub write_refuses : Allows 1 write.ps write.r write_says.Post (λ κs a x s. Refuses (write_checks a.0 a.1.0.now) (of_done x) a.1.0.now s.1.0.now)
 unfolding write_asked
-write-refuses κs a x s p = by-outcome _ _ p
+write_refuses κs a x s p = by_outcome _ _ p
 
-pub enter-frame-refuses : Allows 3 enter-frame.ps enter-frame.r enter-frame-says.Post (λ κs a x s. Refuses (arrival_checks a.0 (book_of a.1.0.now a.1.1.0.now) a.1.1.1.0 a.1.1.1.1.0.now) (of_done x) (book_of a.1.0.now a.1.1.0.now) (book_of s.1.0.now s.1.1.0.now))
+pub enter_frame_refuses : Allows 3 enter_frame.ps enter_frame.r enter_frame_says.Post (λ κs a x s. Refuses (arrival_checks a.0 (book_of a.1.0.now a.1.1.0.now) a.1.1.1.0 a.1.1.1.1.0.now) (of_done x) (book_of a.1.0.now a.1.1.0.now) (book_of s.1.0.now s.1.1.0.now))
 unfolding frame_asked
-enter-frame-refuses κs a x s p = by-outcome _ _ p
+enter_frame_refuses κs a x s p = by_outcome _ _ p
 
-pub entry-of-refuses : Allows 0 entry_of.ps entry_of.r entry-of-says.Post (λ κs a x s. Judged (entry_checks a.0 a.1.0 a.1.1.0) (of_carried x))
+pub entry_of_refuses : Allows 0 entry_of.ps entry_of.r entry_of_says.Post (λ κs a x s. Judged (entry_checks a.0 a.1.0 a.1.1.0) (of_carried x))
 unfolding entry_asked
-entry-of-refuses κs a x s p = by_answer _ _ p
+entry_of_refuses κs a x s p = by_answer _ _ p
 
-pub books-enter-frame-refuses : Allows 2 books-enter-frame.ps books-enter-frame.r books-enter-frame-says.Post (λ κs a x s. Refuses (books_frame_checks a.0 a.1.0.now a.1.1.0 a.1.1.1.0.now) (of_done x) a.1.0.now s.1.0.now)
+pub books_enter_frame_refuses : Allows 2 books_enter_frame.ps books_enter_frame.r books_enter_frame_says.Post (λ κs a x s. Refuses (books_frame_checks a.0 a.1.0.now a.1.1.0 a.1.1.1.0.now) (of_done x) a.1.0.now s.1.0.now)
 unfolding books_frame_asked
-books-enter-frame-refuses κs a x s p = by-outcome _ _ p
+books_enter_frame_refuses κs a x s p = by_outcome _ _ p
 
 -- ---- the bench
 
-pub word-for-refuses : Allows 2 word-for.ps word-for.r word-for-says.Post (λ κs a x s. Judged (word_checks a.0 a.1.0 a.1.1.0.now a.1.1.1.0.now a.1.1.1.1.0) (of_told x))
+pub word_for_refuses : Allows 2 word_for.ps word_for.r word_for_says.Post (λ κs a x s. Judged (word_checks a.0 a.1.0 a.1.1.0.now a.1.1.1.0.now a.1.1.1.1.0) (of_told x))
 unfolding word_asked
-word-for-refuses κs a x s p = by_answer _ _ p
+word_for_refuses κs a x s p = by_answer _ _ p
 
-pub answer-for-refuses : Allows 2 answer-for.ps answer-for.r answer-for-says.Post (λ κs a x s. Judged (answer_checks a.0 a.1.0 a.1.1.0.now a.1.1.1.0.now) (of_told x))
+pub answer_for_refuses : Allows 2 answer_for.ps answer_for.r answer_for_says.Post (λ κs a x s. Judged (answer_checks a.0 a.1.0 a.1.1.0.now a.1.1.1.0.now) (of_told x))
 unfolding bench.answer_for_asked
-answer-for-refuses κs a x s p = by_answer _ _ p
+answer_for_refuses κs a x s p = by_answer _ _ p
 
-pub all-answers-refuses : Allows 3 all_answers.ps all_answers.r all-answers-says.Post (λ κs a x s. Refuses (answers_checks a.0 a.1.0 a.1.1.0.now a.1.1.1.0.now a.1.1.1.1.0.now) (of_done x) a.1.1.1.1.0.now s.1.1.1.1.0.now)
+pub all_answers_refuses : Allows 3 all_answers.ps all_answers.r all_answers_says.Post (λ κs a x s. Refuses (answers_checks a.0 a.1.0 a.1.1.0.now a.1.1.1.0.now a.1.1.1.1.0.now) (of_done x) a.1.1.1.1.0.now s.1.1.1.1.0.now)
 unfolding answers_asked
-all-answers-refuses κs a x s p = by-outcome _ _ p
+all_answers_refuses κs a x s p = by_outcome _ _ p
 
-pub fill-refuses : Allows 4 fill.ps fill.r fill-says.Post (λ κs a x s. Refuses (fill_checks a.0 a.1.0 a.1.1.0.now a.1.1.1.0.now (book_of a.1.1.1.1.0.now a.1.1.1.1.1.0.now)) (of_done x) (book_of a.1.1.1.1.0.now a.1.1.1.1.1.0.now) (book_of s.1.1.1.1.0.now s.1.1.1.1.1.0.now))
+pub fill_refuses : Allows 4 fill.ps fill.r fill_says.Post (λ κs a x s. Refuses (fill_checks a.0 a.1.0 a.1.1.0.now a.1.1.1.0.now (book_of a.1.1.1.1.0.now a.1.1.1.1.1.0.now)) (of_done x) (book_of a.1.1.1.1.0.now a.1.1.1.1.1.0.now) (book_of s.1.1.1.1.0.now s.1.1.1.1.1.0.now))
 unfolding fill_asked
-fill-refuses κs a x s p = by-outcome _ _ p
+fill_refuses κs a x s p = by_outcome _ _ p
 
-pub bound-refuses : Allows 1 bound.ps bound.r bound_says.Post (λ κs a x s. Judged (bound_checks a.0 a.1.0.now) (of_bounded x))
+pub bound_refuses : Allows 1 bound.ps bound.r bound_says.Post (λ κs a x s. Judged (bound_checks a.0 a.1.0.now) (of_bounded x))
 unfolding bound_asked
-bound-refuses κs a x s p = by_answer _ _ p
+bound_refuses κs a x s p = by_answer _ _ p
 
 -- ---- the outcome
 
 -- the number is what its place holds at exit; and where it is not 0, the outcome yielded is the one handed in
-pub set-row-refuses : Allows 3 set-row.ps set-row.r set-row-says.Post (λ κs a x s. Numbers (row_checks a.0 a.1.0 a.1.1.0.now a.1.1.1.0.now) s.1.1.1.1.1.0.now a.1.1.1.1.0 x)
+pub set_row_refuses : Allows 3 set_row.ps set_row.r set_row_says.Post (λ κs a x s. Numbers (row_checks a.0 a.1.0 a.1.1.0.now a.1.1.1.0.now) s.1.1.1.1.1.0.now a.1.1.1.1.0 x)
 unfolding row_asked
-set-row-refuses κs a x s p = by_state _ _ p
+set_row_refuses κs a x s p = by_state _ _ p
 
-pub start-list-refuses : Allows 1 start-list.ps start-list.r start-list-says.Post (λ κs a x s. Refuses (start_checks a.0.now) (of_done x) a.0.now s.0.now)
+pub start_list_refuses : Allows 1 start_list.ps start_list.r start_list_says.Post (λ κs a x s. Refuses (start_checks a.0.now) (of_done x) a.0.now s.0.now)
 unfolding start_asked
-start-list-refuses κs a x s p = by-outcome _ _ p
+start_list_refuses κs a x s p = by_outcome _ _ p
 
-pub set-in-list-refuses : Allows 3 set-in-list.ps set-in-list.r set-in-list-says.Post (λ κs a x s. Refuses (list_checks a.0 a.1.0 a.1.1.0.now a.1.1.1.0.now a.1.1.1.1.0.now) (of_done x) a.1.1.1.1.0.now s.1.1.1.1.0.now)
+pub set_in_list_refuses : Allows 3 set_in_list.ps set_in_list.r set_in_list_says.Post (λ κs a x s. Refuses (list_checks a.0 a.1.0 a.1.1.0.now a.1.1.1.0.now a.1.1.1.1.0.now) (of_done x) a.1.1.1.1.0.now s.1.1.1.1.0.now)
 unfolding list_asked
-set-in-list-refuses κs a x s p = by-outcome _ _ p
+set_in_list_refuses κs a x s p = by_outcome _ _ p
 
 -- ---- listing files
 
-pub read-file-refuses : Allows 1 read-file.ps read-file.r read-file-says.Post (λ κs a x s. Judged (file_checks a.0.now) (of_headed x))
+pub read_file_refuses : Allows 1 read_file.ps read_file.r read_file_says.Post (λ κs a x s. Judged (file_checks a.0.now) (of_headed x))
 unfolding file_asked
-read-file-refuses κs a x s p = by_answer _ _ p
+read_file_refuses κs a x s p = by_answer _ _ p
 
 -- ---- the refusal numbers themselves
 
-pub rack-refused-refuses : Allows 0 rack-refused.ps rack-refused.r rack-refused-says.Post (λ κs a x s. Counted (rack_checks a.0) x)
-rack-refused-refuses κs a x s p = by-verdict _ p
+pub rack_refused_refuses : Allows 0 rack_refused.ps rack_refused.r rack_refused_says.Post (λ κs a x s. Counted (rack_checks a.0) x)
+rack_refused_refuses κs a x s p = by_verdict _ p
 
-pub turn-refused-refuses : Allows 0 turn-refused.ps turn-refused.r turn-refused-says.Post (λ κs a x s. Counted (turn_checks a.0) x)
-turn-refused-refuses κs a x s p = by-verdict _ p
+pub turn_refused_refuses : Allows 0 turn_refused.ps turn_refused.r turn_refused_says.Post (λ κs a x s. Counted (turn_checks a.0) x)
+turn_refused_refuses κs a x s p = by_verdict _ p
 
-pub settings-refused-refuses : Allows 0 settings-refused.ps settings-refused.r settings-refused-says.Post (λ κs a x s. Counted (settings_checks a.0) x)
-settings-refused-refuses κs a x s p = by-verdict _ p
+pub settings_refused_refuses : Allows 0 settings_refused.ps settings_refused.r settings_refused_says.Post (λ κs a x s. Counted (settings_checks a.0) x)
+settings_refused_refuses κs a x s p = by_verdict _ p
 
-pub book-refused-refuses : Allows 2 book-refused.ps book-refused.r book-refused-says.Post (λ κs a x s. Counted (book_checks a.0 (book_of a.1.0.now a.1.1.0.now)) x)
-book-refused-refuses κs a x s p = by-verdict _ p
+pub book_refused_refuses : Allows 2 book_refused.ps book_refused.r book_refused_says.Post (λ κs a x s. Counted (book_checks a.0 (book_of a.1.0.now a.1.1.0.now)) x)
+book_refused_refuses κs a x s p = by_verdict _ p
 
-pub part-refused-refuses : Allows 1 part-refused.ps part-refused.r part-refused-says.Post (λ κs a x s. Counted (book_checks a.0 (halves a.1.0.now)) x)
-part-refused-refuses κs a x s p = by-verdict _ p
+pub part_refused_refuses : Allows 1 part_refused.ps part_refused.r part_refused_says.Post (λ κs a x s. Counted (book_checks a.0 (halves a.1.0.now)) x)
+part_refused_refuses κs a x s p = by_verdict _ p
 
-pub books-refused-refuses : Allows 1 books-refused.ps books-refused.r books-refused-says.Post (λ κs a x s. Counted (books_checks a.0 a.1.0.now) x)
-books-refused-refuses κs a x s p = by-verdict _ p
+pub books_refused_refuses : Allows 1 books_refused.ps books_refused.r books_refused_says.Post (λ κs a x s. Counted (books_checks a.0 a.1.0.now) x)
+books_refused_refuses κs a x s p = by_verdict _ p
 
-pub bytes-refused-refuses : Allows 1 bytes-refused.ps bytes-refused.r bytes-refused-says.Post (λ κs a x s. Counted (read_checks a.0.now) x)
-bytes-refused-refuses κs a x s p = by-verdict _ p
+pub bytes-refused_refuses : Allows 1 bytes_refused.ps bytes_refused.r bytes_refused_says.Post (λ κs a x s. Counted (read_checks a.0.now) x)
+bytes-refused_refuses κs a x s p = by_verdict _ p
 
-pub statuses-refused-refuses : Allows 1 statuses-refused.ps statuses-refused.r statuses-refused-says.Post (λ κs a x s. Counted (status_checks a.0 a.1.0 a.1.1.0.now) x)
-statuses-refused-refuses κs a x s p = by-verdict _ p
+pub statuses_refused_refuses : Allows 1 statuses_refused.ps statuses_refused.r statuses_refused_says.Post (λ κs a x s. Counted (status_checks a.0 a.1.0 a.1.1.0.now) x)
+statuses_refused_refuses κs a x s p = by_verdict _ p
 
-pub values-refused-refuses : Allows 1 values-refused.ps values-refused.r values-refused-says.Post (λ κs a x s. Counted (value_checks a.0 a.1.0 a.1.1.0.now a.1.1.1.0) x)
-values-refused-refuses κs a x s p = by-verdict _ p
+pub values_refused_refuses : Allows 1 values_refused.ps values_refused.r values_refused_says.Post (λ κs a x s. Counted (value_checks a.0 a.1.0 a.1.1.0.now a.1.1.1.0) x)
+values_refused_refuses κs a x s p = by_verdict _ p

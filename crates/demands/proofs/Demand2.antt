@@ -33,80 +33,80 @@ use Rattle.bound.specs.Bound.{of_bounded, bound_asked}
 use Rattle.agreement.proofs.Demand2.{n, m, a, s, c}
 use Rattle.omh.specs.Numbers as numbers
 use Rattle.omh.specs.Numbers.{rack, frame_with, numbered, placed, placed_as, bit, fields_of}
-use Rattle.demands.proofs.Cards.{card_of, Tells, tells-value, tells-read, tells-missing, tell-same, bound-is, all_tell, filled-tells, votes-answer, holds-answer}
-use Rattle.vote.proofs.vote_at.Kinds as vote-at
-use Rattle.vote.proofs.vote_at.Reads as vote-at-says
+use Rattle.demands.proofs.Cards.{card_of, Tells, tells_value, tells_read, tells_missing, tell_same, bound_is, all_tell, filled_tells, votes-answer, holds-answer}
+use Rattle.vote.proofs.vote_at.Kinds as vote_at
+use Rattle.vote.proofs.vote_at.Reads as vote_at_says
 use Rattle.frames.proofs.read.Kinds as read
-use Rattle.frames.proofs.read.Reads as read-says
+use Rattle.frames.proofs.read.Reads as read_says
 use Rattle.frames.proofs.write.Kinds as write
-use Rattle.frames.proofs.write.Reads as write-says
+use Rattle.frames.proofs.write.Reads as write_says
 use Rattle.bench.proofs.answer_for.Kinds as answer-for
-use Rattle.bench.proofs.answer_for.Reads as answer-for-says
+use Rattle.bench.proofs.answer_for.Reads as answer_for_says
 use Rattle.bench.proofs.all_answers.Kinds as all_answers
-use Rattle.bench.proofs.all_answers.Reads as all-answers-says
+use Rattle.bench.proofs.all_answers.Reads as all_answers_says
 use Rattle.dealing.proofs.fill.Kinds as fill
-use Rattle.dealing.proofs.fill.Reads as fill-says
+use Rattle.dealing.proofs.fill.Reads as fill_says
 use Rattle.bound.proofs.bound.Kinds as bound
 use Rattle.bound.proofs.bound.Reads as bound_says
-use Rattle.omh.proofs.omh_vote_at.Kinds as c-vote-at
-use Rattle.omh.proofs.omh_vote_at.Reads as c-vote-at-says
-use Rattle.omh.proofs.omh_read_frame.Kinds as c-read-frame
-use Rattle.omh.proofs.omh_read_frame.Reads as c-read-frame-says
-use Rattle.omh.proofs.omh_write_frame.Kinds as c-write-frame
-use Rattle.omh.proofs.omh_write_frame.Reads as c-write-frame-says
-use Rattle.omh.proofs.omh_answer_for.Kinds as c-answer-for
-use Rattle.omh.proofs.omh_answer_for.Reads as c-answer-for-says
-use Rattle.omh.proofs.omh_all_answers.Kinds as c-all-answers
-use Rattle.omh.proofs.omh_all_answers.Reads as c-all-answers-says
-use Rattle.omh.proofs.omh_fill.Kinds as c-fill
-use Rattle.omh.proofs.omh_fill.Reads as c-fill-says
-use Rattle.omh.proofs.omh_bound.Kinds as c-bound
-use Rattle.omh.proofs.omh_bound.Reads as c-bound-says
+use Rattle.omh.proofs.omh_vote_at.Kinds as c_vote_at
+use Rattle.omh.proofs.omh_vote_at.Reads as c_vote_at_says
+use Rattle.omh.proofs.omh_read_frame.Kinds as c_read_frame
+use Rattle.omh.proofs.omh_read_frame.Reads as c_read_frame_says
+use Rattle.omh.proofs.omh_write_frame.Kinds as c_write_frame
+use Rattle.omh.proofs.omh_write_frame.Reads as c_write_frame_says
+use Rattle.omh.proofs.omh_answer_for.Kinds as c_answer_for
+use Rattle.omh.proofs.omh_answer_for.Reads as c_answer_for_says
+use Rattle.omh.proofs.omh_all_answers.Kinds as c_all_answers
+use Rattle.omh.proofs.omh_all_answers.Reads as c_all_answers_says
+use Rattle.omh.proofs.omh_fill.Kinds as c_fill
+use Rattle.omh.proofs.omh_fill.Reads as c_fill_says
+use Rattle.omh.proofs.omh_bound.Kinds as c_bound
+use Rattle.omh.proofs.omh_bound.Reads as c_bound_says
 
 -- ---- what the contracts say of a call
 
-pub answer-for-tells : Allows 2 answer-for.ps answer-for.r answer-for-says.Post (λ κs a x e. of_told x ≡ answer_for_asked a.0 a.1.0 a.1.1.0.now a.1.1.1.0.now)
-answer-for-tells κs a x e p = p
+pub answer_for_tells : Allows 2 answer-for.ps answer-for.r answer_for_says.Post (λ κs a x e. of_told x ≡ answer_for_asked a.0 a.1.0 a.1.1.0.now a.1.1.1.0.now)
+answer_for_tells κs a x e p = p
 
-pub all-answers-leaves : Allows 3 all_answers.ps all_answers.r all-answers-says.Post (λ κs a x e. outcome (of_done x) e.1.1.1.1.0.now ≡ answers_asked a.0 a.1.0 a.1.1.0.now a.1.1.1.0.now a.1.1.1.1.0.now)
-all-answers-leaves κs a x e p = p
+pub all_answers_leaves : Allows 3 all_answers.ps all_answers.r all_answers_says.Post (λ κs a x e. outcome (of_done x) e.1.1.1.1.0.now ≡ answers_asked a.0 a.1.0 a.1.1.0.now a.1.1.1.0.now a.1.1.1.1.0.now)
+all_answers_leaves κs a x e p = p
 
-pub fill-leaves : Allows 4 fill.ps fill.r fill-says.Post (λ κs a x e. outcome (of_done x) (book_of e.1.1.1.1.0.now e.1.1.1.1.1.0.now) ≡ fill_asked a.0 a.1.0 a.1.1.0.now a.1.1.1.0.now (book_of a.1.1.1.1.0.now a.1.1.1.1.1.0.now))
-fill-leaves κs a x e p = p
+pub fill_leaves : Allows 4 fill.ps fill.r fill_says.Post (λ κs a x e. outcome (of_done x) (book_of e.1.1.1.1.0.now e.1.1.1.1.1.0.now) ≡ fill_asked a.0 a.1.0 a.1.1.0.now a.1.1.1.0.now (book_of a.1.1.1.1.0.now a.1.1.1.1.1.0.now))
+fill_leaves κs a x e p = p
 
-pub bound-tells : Allows 1 bound.ps bound.r bound_says.Post (λ κs a x e. of_bounded x ≡ bound_asked a.0 a.1.0.now)
-bound-tells κs a x e p = p
+pub bound_tells : Allows 1 bound.ps bound.r bound_says.Post (λ κs a x e. of_bounded x ≡ bound_asked a.0 a.1.0.now)
+bound_tells κs a x e p = p
 
-pub vote-at-tells : Allows 1 vote-at.ps vote-at.r vote-at-says.Post (λ κs a x e. of_told x ≡ vote_asked a.0 a.1.0.now a.1.1.0)
-vote-at-tells κs a x e p = p
+pub vote_at_tells : Allows 1 vote_at.ps vote_at.r vote_at_says.Post (λ κs a x e. of_told x ≡ vote_asked a.0 a.1.0.now a.1.1.0)
+vote_at_tells κs a x e p = p
 
-pub read-tells : Allows 1 read.ps read.r read-says.Post (λ κs a x e. of_parsed x ≡ read_asked a.0.now)
-read-tells κs a x e p = p
+pub read_tells : Allows 1 read.ps read.r read_says.Post (λ κs a x e. of_parsed x ≡ read_asked a.0.now)
+read_tells κs a x e p = p
 
-pub write-leaves : Allows 1 write.ps write.r write-says.Post (λ κs a x e. outcome (of_done x) e.1.0.now ≡ write_asked a.0 a.1.0.now)
-write-leaves κs a x e p = p
+pub write_leaves : Allows 1 write.ps write.r write_says.Post (λ κs a x e. outcome (of_done x) e.1.0.now ≡ write_asked a.0 a.1.0.now)
+write_leaves κs a x e p = p
 
 -- and so what C gets
-pub c-vote-at-tells : Allows 2 c-vote-at.ps c-vote-at.r c-vote-at-says.Post (λ κs a x e. outcome x e.1.1.1.1.1.1.0.now ≡ placed (vote_asked (settings a.0 a.1.0 a.1.1.0 a.1.1.1.0) a.1.1.1.1.0.now a.1.1.1.1.1.0) a.1.1.1.1.1.1.0.now)
-c-vote-at-tells κs a x e p = p
+pub c_vote_at_tells : Allows 2 c_vote_at.ps c_vote_at.r c_vote_at_says.Post (λ κs a x e. outcome x e.1.1.1.1.1.1.0.now ≡ placed (vote_asked (settings a.0 a.1.0 a.1.1.0 a.1.1.1.0) a.1.1.1.1.0.now a.1.1.1.1.1.0) a.1.1.1.1.1.1.0.now)
+c_vote_at_tells κs a x e p = p
 
-pub c-read-frame-leaves : Allows 2 c-read-frame.ps c-read-frame.r c-read-frame-says.Post (λ κs a x e. outcome x e.1.0.now ≡ placed_as fields_of (read_asked a.0.now) a.1.0.now)
-c-read-frame-leaves κs a x e p = p
+pub c_read-frame-leaves : Allows 2 c_read_frame.ps c_read_frame.r c_read_frame_says.Post (λ κs a x e. outcome x e.1.0.now ≡ placed_as fields_of (read_asked a.0.now) a.1.0.now)
+c_read-frame-leaves κs a x e p = p
 
-pub c-write-frame-leaves : Allows 1 c-write-frame.ps c-write-frame.r c-write-frame-says.Post (λ κs a x e. outcome x e.1.1.1.1.1.1.1.1.0.now ≡ numbered (write_asked (frame_with a.0 a.1.0 a.1.1.0 a.1.1.1.0 a.1.1.1.1.0 a.1.1.1.1.1.0 a.1.1.1.1.1.1.0 a.1.1.1.1.1.1.1.0) a.1.1.1.1.1.1.1.1.0.now))
-c-write-frame-leaves κs a x e p = p
+pub c_write_frame-leaves : Allows 1 c_write_frame.ps c_write_frame.r c_write_frame_says.Post (λ κs a x e. outcome x e.1.1.1.1.1.1.1.1.0.now ≡ numbered (write_asked (frame_with a.0 a.1.0 a.1.1.0 a.1.1.1.0 a.1.1.1.1.0 a.1.1.1.1.1.0 a.1.1.1.1.1.1.0 a.1.1.1.1.1.1.1.0) a.1.1.1.1.1.1.1.1.0.now))
+c_write_frame-leaves κs a x e p = p
 
-pub c-answer-for-tells : Allows 3 c-answer-for.ps c-answer-for.r c-answer-for-says.Post (λ κs a x e. outcome x e.1.1.1.1.1.1.1.0.now ≡ placed (answer_for_asked (settings a.0 a.1.0 a.1.1.0 a.1.1.1.1.1.1.0) a.1.1.1.0 a.1.1.1.1.0.now a.1.1.1.1.1.0.now) a.1.1.1.1.1.1.1.0.now)
-c-answer-for-tells κs a x e p = p
+pub c_answer_for_tells : Allows 3 c_answer_for.ps c_answer_for.r c_answer_for_says.Post (λ κs a x e. outcome x e.1.1.1.1.1.1.1.0.now ≡ placed (answer_for_asked (settings a.0 a.1.0 a.1.1.0 a.1.1.1.1.1.1.0) a.1.1.1.0 a.1.1.1.1.0.now a.1.1.1.1.1.0.now) a.1.1.1.1.1.1.1.0.now)
+c_answer_for_tells κs a x e p = p
 
-pub c-all-answers-leaves : Allows 3 c-all-answers.ps c-all-answers.r c-all-answers-says.Post (λ κs a x e. outcome x e.1.1.1.1.1.1.0.now ≡ numbered (answers_asked (numbers.turn a.0 a.1.0 a.1.1.0) a.1.1.1.0 a.1.1.1.1.0.now a.1.1.1.1.1.0.now a.1.1.1.1.1.1.0.now))
-c-all-answers-leaves κs a x e p = p
+pub c_all_answers_leaves : Allows 3 c_all_answers.ps c_all_answers.r c_all_answers_says.Post (λ κs a x e. outcome x e.1.1.1.1.1.1.0.now ≡ numbered (answers_asked (numbers.turn a.0 a.1.0 a.1.1.0) a.1.1.1.0 a.1.1.1.1.0.now a.1.1.1.1.1.0.now a.1.1.1.1.1.1.0.now))
+c_all_answers_leaves κs a x e p = p
 
-pub c-fill-leaves : Allows 4 c-fill.ps c-fill.r c-fill-says.Post (λ κs a x e. outcome x (book_of e.1.1.1.1.1.1.1.0.now e.1.1.1.1.1.1.1.1.0.now) ≡ numbered (fill_asked (settings a.0 a.1.0 a.1.1.0 a.1.1.1.1.1.1.0) a.1.1.1.0 a.1.1.1.1.0.now a.1.1.1.1.1.0.now (book_of a.1.1.1.1.1.1.1.0.now a.1.1.1.1.1.1.1.1.0.now)))
-c-fill-leaves κs a x e p = p
+pub c_fill_leaves : Allows 4 c_fill.ps c_fill.r c_fill_says.Post (λ κs a x e. outcome x (book_of e.1.1.1.1.1.1.1.0.now e.1.1.1.1.1.1.1.1.0.now) ≡ numbered (fill_asked (settings a.0 a.1.0 a.1.1.0 a.1.1.1.1.1.1.0) a.1.1.1.0 a.1.1.1.1.0.now a.1.1.1.1.1.0.now (book_of a.1.1.1.1.1.1.1.0.now a.1.1.1.1.1.1.1.1.0.now)))
+c_fill_leaves κs a x e p = p
 
-pub c-bound-tells : Allows 2 c-bound.ps c-bound.r c-bound-says.Post (λ κs a x e. outcome x e.1.1.1.0.now ≡ placed_as bit (bound_asked (rack a.0 a.1.0) a.1.1.0.now) a.1.1.1.0.now)
-c-bound-tells κs a x e p = p
+pub c_bound_tells : Allows 2 c_bound.ps c_bound.r c_bound_says.Post (λ κs a x e. outcome x e.1.1.1.0.now ≡ placed_as bit (bound_asked (rack a.0 a.1.0) a.1.1.0.now) a.1.1.1.0.now)
+c_bound_tells κs a x e p = p
 
 -- ---- what good cards answer
 
@@ -131,15 +131,15 @@ pub record Demand2 (turn : Turn) (x : ℤ) (statuses : List ℕ) (words : List �
   -- and so does the card's own book, opened, after any run of words and frames whose accepted words leave on each live path the word dealt to the card there: in any order, refused and repeated ones among them.
   pub own_book : (p : ℕ) (w : ℤ) → Tells turn x statuses words p w → (b : Book) → Sized b → (xs : List Arrival) → ((k : ℕ) → T (live (card_of turn p) k) → left_at (card_of turn p) k (entries_of (card_of turn p) xs) E ≡ dealt (rule_of turn.rack) (exchange turn x statuses words) k p) → held_asked (open_arrived (card_of turn p) b xs) ≡ value w
 
-pub demand-2 : (turn : Turn) (x : ℤ) (statuses : List ℕ) (words : List ℤ) → Demand2 turn x statuses words
-demand-2 turn x statuses words = record {
-  bound_says = bound-is turn x statuses words;
-  sender_good = λ e q p w t. tells-value turn x statuses words t e q;
-  sender_symmetric = λ e q p w t. tells-read turn x statuses words t e q;
-  sender_manifest = λ e q p w t. tells-missing turn x statuses words t e q;
-  agree = λ e f p q w v t u. tell-same turn x statuses words e f t u;
+pub demand_2 : (turn : Turn) (x : ℤ) (statuses : List ℕ) (words : List ℤ) → Demand2 turn x statuses words
+demand_2 turn x statuses words = record {
+  bound_says = bound_is turn x statuses words;
+  sender_good = λ e q p w t. tells_value turn x statuses words t e q;
+  sender_symmetric = λ e q p w t. tells_read turn x statuses words t e q;
+  sender_manifest = λ e q p w t. tells_missing turn x statuses words t e q;
+  agree = λ e f p q w v t u. tell_same turn x statuses words e f t u;
   all_answers = λ list d p w t. all_tell turn x statuses words t list d;
-  filled = λ p w t b d. filled-tells turn x statuses words t b d;
+  filled = λ p w t b d. filled_tells turn x statuses words t b d;
   voted = λ p w t ws z h. votes-answer turn x statuses words t ws z h;
   own_book = λ p w t b z xs h. holds-answer turn x statuses words t b z xs h;
 }
@@ -154,5 +154,5 @@ pub record Demand2Frames : Type 0 where
   -- The writer refuses what the reader would refuse: a record that no bytes read to.
   pub writer_refuses : (f : Frame) (buffer : List ℕ) → InRange f → length buffer ≡ 17 → ((write_asked f buffer).yields ≡ refused 14) ↔ ((l : List ℕ) → AllBytes l → read_asked l ≡ value f → ⊥)
 
-pub demand-2-frames : Demand2Frames
-demand-2-frames = record { reads_back = round.written-reads; one_frame = round.one_frame; writer_refuses = round.refused-unread }
+pub demand_2_frames : Demand2Frames
+demand_2_frames = record { reads_back = round.written_reads; one_frame = round.one_frame; writer_refuses = round.refused_unread }

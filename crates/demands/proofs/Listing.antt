@@ -12,7 +12,7 @@ use Rattle.ground.specs.Fixes.{Allows}
 use Rattle.ground.proofs.Bools.{and_left, and_right}
 use Rattle.ground.proofs.Verdicts.{none-verdict}
 use Rattle.text.specs.Decimal.{digits_of, decimal_of}
-use Rattle.text.proofs.Laws.{reading, reading-last, digits-read}
+use Rattle.text.proofs.Laws.{reading, reading-last, digits_read}
 use Rattle.settings.specs.Settings.{fits}
 use Rattle.exchange.specs.Exchange.{statuses_of}
 use Rattle.bound.specs.Bound.{bounded}
@@ -21,17 +21,17 @@ use Rattle.trials.specs.Listing.{line_of, lines, bound_line, refused_line, card_
 use Rattle.demands.specs.Refusing.{First}
 use Rattle.demands.proofs.Order.{first-verdict, first_of}
 use Rattle.trials.proofs.list.Kinds as list
-use Rattle.trials.proofs.list.Reads as list-says
-use Rattle.omh.proofs.omh_list.Kinds as c-list
-use Rattle.omh.proofs.omh_list.Reads as c-list-says
+use Rattle.trials.proofs.list.Reads as list_says
+use Rattle.omh.proofs.omh_list.Kinds as c_list
+use Rattle.omh.proofs.omh_list.Reads as c_list_says
 
 -- ---- what the contracts say of a call: the text's length and bytes, and the places after it untouched
 
-pub list-stores : Allows 2 list.ps list.r list-says.Post (λ κs a x e. let text = text_of a.0.now in (x ≡ length text) × (e.1.0.now ≡ text ++ drop (length text) a.1.0.now))
-list-stores κs a x e p = p
+pub list_stores : Allows 2 list.ps list.r list_says.Post (λ κs a x e. let text = text_of a.0.now in (x ≡ length text) × (e.1.0.now ≡ text ++ drop (length text) a.1.0.now))
+list_stores κs a x e p = p
 
-pub c-list-stores : Allows 2 c-list.ps c-list.r c-list-says.Post (λ κs a x e. let text = text_of a.0.now in (x ≡ length text) × (e.1.0.now ≡ text ++ drop (length text) a.1.0.now))
-c-list-stores κs a x e p = p
+pub c_list_stores : Allows 2 c_list.ps c_list.r c_list_says.Post (λ κs a x e. let text = text_of a.0.now in (x ≡ length text) × (e.1.0.now ≡ text ++ drop (length text) a.1.0.now))
+c_list_stores κs a x e p = p
 
 -- ---- a refusal's line tells its number
 
@@ -39,23 +39,23 @@ small : List Check → Bool
 small [] = true
 small (c ∷ cs) = ltb c.number 256 && small cs
 
-verdict-small : (cs : List Check) → T (small cs) → verdict cs < 256
+verdict_small : (cs : List Check) → T (small cs) → verdict cs < 256
 unfolding verdict small
-verdict-small [] t = omega arith
-verdict-small (c ∷ cs) t = go c.applies (verdict-small cs (and_right (ltb c.number 256) _ t))
+verdict_small [] t = omega arith
+verdict_small (c ∷ cs) t = go c.applies (verdict_small cs (and_right (ltb c.number 256) _ t))
   where
     go : (b : Bool) → verdict cs < 256 → cond b c.number (verdict cs) < 256
     go true ih = ltb→lt c.number 256 (and_left (ltb c.number 256) _ t)
     go false ih = ih
 
 -- read as a number, LF and all, the line's end is ten times it
-line-number : (k : ℕ) → k < 256 → reading 0 (drop 8 (refused_line k)) ≡ 10 * k
+line_number : (k : ℕ) → k < 256 → reading 0 (drop 8 (refused_line k)) ≡ 10 * k
 unfolding refused_line decimal_of
-line-number k h = reading-last 0 (digits_of 10 k) 10 ∙ omega (arith, digits-read 10 k (omega arith))
+line_number k h = reading-last 0 (digits_of 10 k) 10 ∙ omega (arith, digits_read 10 k (omega arith))
 
-line-tells : (j k : ℕ) → j < 256 → k < 256 → refused_line j ≡ refused_line k → j ≡ k
-line-tells j k h g e =
-    let same : 10 * j ≡ 10 * k = sym (line-number j h) ∙ ap (λ (l : List ℕ). reading 0 (drop 8 l)) e ∙ line-number k g in
+line_tells : (j k : ℕ) → j < 256 → k < 256 → refused_line j ≡ refused_line k → j ≡ k
+line_tells j k h g e =
+    let same : 10 * j ≡ 10 * k = sym (line_number j h) ∙ ap (λ (l : List ℕ). reading 0 (drop 8 l)) e ∙ line_number k g in
     omega arith
 
 -- ---- no other text is one: it begins with a card's digit or with `b`
@@ -70,28 +70,28 @@ begins passes line digit (suc c) h rest e = go (passes c) (begins passes line di
     go false q = q
 
 module _ (file : List ℕ) where
-  listed-not-refused : (k : ℕ) → listed file ≡ refused_line k → ⊥
+  listed_not_refused : (k : ℕ) → listed file ≡ refused_line k → ⊥
   unfolding refused_line line_of bound_line
-  listed-not-refused k e = bound-first (bounded (turn_in file).rack (statuses_of (statuses file))) (begins (fits (turn_in file).rack) (card_line file) (λ p rest. refl) 10 (omega arith) _ (ap (λ (l : List ℕ). get_or l 0 0) e))
+  listed_not_refused k e = bound_first (bounded (turn_in file).rack (statuses_of (statuses file))) (begins (fits (turn_in file).rack) (card_line file) (λ p rest. refl) 10 (omega arith) _ (ap (λ (l : List ℕ). get_or l 0 0) e))
     where
-      bound-first : (b : Bool) → get_or (bound_line b) 0 0 ≡ 114 → ⊥
-      bound-first true q = omega arith
-      bound-first false q = omega arith
+      bound_first : (b : Bool) → get_or (bound_line b) 0 0 ≡ 114 → ⊥
+      bound_first true q = omega arith
+      bound_first false q = omega arith
 
   -- ---- the text
 
-  pub listing-refused : (k : ℕ) → First (file_checks file) (suc k) → text_of file ≡ refused_line (suc k)
+  pub listing_refused : (k : ℕ) → First (file_checks file) (suc k) → text_of file ≡ refused_line (suc k)
   unfolding text_of answer
-  listing-refused k f = rw (first-verdict (file_checks file) (suc k) f)
+  listing_refused k f = rw (first-verdict (file_checks file) (suc k) f)
 
-  pub listing-printed : NoneOf (file_checks file) → text_of file ≡ listed file
+  pub listing_printed : NoneOf (file_checks file) → text_of file ≡ listed file
   unfolding text_of answer
-  listing-printed none = rw (none-verdict (file_checks file) none)
+  listing_printed none = rw (none-verdict (file_checks file) none)
 
-  pub listing-only : (k : ℕ) → k < 256 → text_of file ≡ refused_line k → First (file_checks file) k
+  pub listing_only : (k : ℕ) → k < 256 → text_of file ≡ refused_line k → First (file_checks file) k
   unfolding text_of answer small
-  listing-only k h e = go (verdict (file_checks file)) refl (verdict-small (file_checks file) tt) e
+  listing_only k h e = go (verdict (file_checks file)) refl (verdict_small (file_checks file) tt) e
     where
       go : (v : ℕ) → verdict (file_checks file) ≡ v → v < 256 → text_of file ≡ refused_line k → First (file_checks file) k
-      go zero q g e = unfold text_of answer in absurd (listed-not-refused k (rw q at e))
-      go (suc v) q g e = unfold text_of answer in (let same : suc v ≡ k = line-tells (suc v) k g h (rw q at e) in first_of (file_checks file) k (q ∙ same) (λ z. omega arith))
+      go zero q g e = unfold text_of answer in absurd (listed_not_refused k (rw q at e))
+      go (suc v) q g e = unfold text_of answer in (let same : suc v ≡ k = line_tells (suc v) k g h (rw q at e) in first_of (file_checks file) k (q ∙ same) (λ z. omega arith))

@@ -9,7 +9,7 @@ use Rattle.ground.specs.Checks.{Check, check, verdict, NoneOf}
 use Rattle.ground.specs.Answer.{Answer, refused, answer, Outcome, outcome, after, outcome_by}
 use Rattle.ground.proofs.Answers.{refused-verdict, refused-leaves}
 use Rattle.book.specs.Book.{Book, halves}
-use Rattle.book.proofs.Halves.{halves-apart}
+use Rattle.book.proofs.Halves.{halves_apart}
 use Rattle.omh.specs.Numbers.{number_of, numbered, placed_as}
 use Rattle.demands.specs.Refusing.{First, Refuses, Numbers, Judged, Counted}
 
@@ -65,15 +65,15 @@ module _ (cs : List Check) where
   by_answer a e = refuses a (tt {0}) (tt {0}) e refl
 
   -- an outcome
-  pub by-outcome : {L : Type 0} (made : L) {before l : L} {y : Answer (Unit {0})} → outcome y l ≡ outcome_by (verdict cs) before made → Refuses cs y before l
+  pub by_outcome : {L : Type 0} (made : L) {before l : L} {y : Answer (Unit {0})} → outcome y l ≡ outcome_by (verdict cs) before made → Refuses cs y before l
   unfolding outcome_by
-  by-outcome {L} made {before} e = refuses tt before made (ap (λ (o : Outcome (Answer (Unit {0})) L). o.yields) e) (ap (λ (o : Outcome (Answer (Unit {0})) L). o.leaves) e)
+  by_outcome {L} made {before} e = refuses tt before made (ap (λ (o : Outcome (Answer (Unit {0})) L). o.yields) e) (ap (λ (o : Outcome (Answer (Unit {0})) L). o.leaves) e)
 
   -- an outcome of a book in one list
   pub by_part : (made : Book) {before l : List ℤ} {y : Answer (Unit {0})} → outcome y (halves l) ≡ outcome_by (verdict cs) (halves before) made → Refuses cs y before l
   by_part made {before} {l} e =
-      let r = by-outcome made e in
-      record { only = r.only; always = r.always; unchanged = λ k q. halves-apart l before (r.unchanged k q) }
+      let r = by_outcome made e in
+      record { only = r.only; always = r.always; unchanged = λ k q. halves_apart l before (r.unchanged k q) }
 
   -- ---- a number
 
@@ -90,8 +90,8 @@ module _ (cs : List Check) where
   number_is a (suc v) = refl
 
   -- a verdict's own
-  pub by-verdict : {k : ℕ} → k ≡ verdict cs → Counted cs k
-  by-verdict e = counts e (λ n. refl)
+  pub by_verdict : {k : ℕ} → k ≡ verdict cs → Counted cs k
+  by_verdict e = counts e (λ n. refl)
 
   -- a number, and what is handed in and yielded beside it
   pub by_state : {L : Type 0} (made : L) {before l : L} {k : ℕ} → outcome k l ≡ outcome (verdict cs) (after (verdict cs) before made) → Numbers cs k before l

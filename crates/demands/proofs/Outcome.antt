@@ -11,8 +11,8 @@ use Rattle.ground.specs.Checks.{verdict}
 use Rattle.ground.specs.Answer.{value, outcome, of_done}
 use Rattle.ground.specs.Fixes.{Allows}
 use Rattle.ground.specs.Lists.{at}
-use Rattle.ground.proofs.Bools.{T-eq}
-use Rattle.ground.proofs.Verdicts.{none-verdict, no-verdicts, rest-decides}
+use Rattle.ground.proofs.Bools.{T_eq}
+use Rattle.ground.proofs.Verdicts.{none-verdict, no_verdicts, rest_decides}
 use Rattle.words.specs.Word.{E}
 use Rattle.settings.specs.Settings.{cards, fits, turn_checks, settings_checks}
 use Rattle.settings.specs.declared.Rack.{Rack}
@@ -23,52 +23,52 @@ use Rattle.entering.specs.Run.{left_at}
 use Rattle.arrivals.specs.Run.{entries_of}
 use Rattle.exchange.specs.Exchange.{good, statuses_of, dealt}
 use Rattle.bound.specs.Bound.{arbitraries, symmetrics, manifests}
-use Rattle.agreement.proofs.Demand2.{GoodCard, Demand2, demand-2}
+use Rattle.agreement.proofs.Demand2.{GoodCard, Demand2, demand_2}
 use Rattle.books.specs.Books.{books_words, book_from}
 use Rattle.books.specs.Run.{Mixed, open_called, own_of}
-use Rattle.books.proofs.Parts.{from-sized, good-has}
-use Rattle.books.proofs.Runs.{mixed-run}
+use Rattle.books.proofs.Parts.{from_sized, good_has}
+use Rattle.books.proofs.Runs.{mixed_run}
 use Rattle.outcomes.specs.Rows.{start, word_at, outcome_words}
 use Rattle.outcomes.specs.Asked.{row_asked, start_asked, list_asked}
 use Rattle.outcomes.specs.Run.{Call, turn_for, exchange_for, after_calls, last_for, started_list}
-use Rattle.outcomes.proofs.Runs.{Accepted, last-accepted, unset-word, set_word, absent-card, absent-sender}
-use Rattle.outcomes.proofs.Flat.{started-word}
+use Rattle.outcomes.proofs.Runs.{Accepted, last_accepted, unset_word, set_word, absent_card, absent_sender}
+use Rattle.outcomes.proofs.Flat.{started_word}
 use Rattle.omh.specs.Numbers.{turn, numbered}
 use Rattle.demands.proofs.Cards.{card_of, holds-dealt}
 use Rattle.outcomes.proofs.start.Kinds as starts
-use Rattle.outcomes.proofs.start.Reads as starts-says
-use Rattle.outcomes.proofs.set_row.Kinds as set-row
-use Rattle.outcomes.proofs.set_row.Reads as set-row-says
-use Rattle.outcomes.proofs.start_list.Kinds as start-list
-use Rattle.outcomes.proofs.start_list.Reads as start-list-says
-use Rattle.outcomes.proofs.set_in_list.Kinds as set-in-list
-use Rattle.outcomes.proofs.set_in_list.Reads as set-in-list-says
-use Rattle.omh.proofs.omh_outcome_start.Kinds as c-start
-use Rattle.omh.proofs.omh_outcome_start.Reads as c-start-says
-use Rattle.omh.proofs.omh_outcome_set.Kinds as c-set
-use Rattle.omh.proofs.omh_outcome_set.Reads as c-set-says
+use Rattle.outcomes.proofs.start.Reads as starts_says
+use Rattle.outcomes.proofs.set_row.Kinds as set_row
+use Rattle.outcomes.proofs.set_row.Reads as set_row_says
+use Rattle.outcomes.proofs.start_list.Kinds as start_list
+use Rattle.outcomes.proofs.start_list.Reads as start_list_says
+use Rattle.outcomes.proofs.set_in_list.Kinds as set_in_list
+use Rattle.outcomes.proofs.set_in_list.Reads as set_in_list_says
+use Rattle.omh.proofs.omh_outcome_start.Kinds as c_start
+use Rattle.omh.proofs.omh_outcome_start.Reads as c_start_says
+use Rattle.omh.proofs.omh_outcome_set.Kinds as c_set
+use Rattle.omh.proofs.omh_outcome_set.Reads as c_set_says
 
 -- ---- what the contracts say of a call
 
-pub starts-all-E : Allows 0 starts.ps starts.r starts-says.Post (λ κs a x e. x ≡ start)
+pub starts-all-E : Allows 0 starts.ps starts.r starts_says.Post (λ κs a x e. x ≡ start)
 starts-all-E κs a x e p = p
 
 -- the number in its place, and the outcome handed back
-pub set-row-leaves : Allows 3 set-row.ps set-row.r set-row-says.Post (λ κs a x e. outcome e.1.1.1.1.1.0.now x ≡ row_asked a.0 a.1.0 a.1.1.0.now a.1.1.1.0.now a.1.1.1.1.0)
-set-row-leaves κs a x e p = p
+pub set_row_leaves : Allows 3 set_row.ps set_row.r set_row_says.Post (λ κs a x e. outcome e.1.1.1.1.1.0.now x ≡ row_asked a.0 a.1.0 a.1.1.0.now a.1.1.1.0.now a.1.1.1.1.0)
+set_row_leaves κs a x e p = p
 
-pub start-list-leaves : Allows 1 start-list.ps start-list.r start-list-says.Post (λ κs a x e. outcome (of_done x) e.0.now ≡ start_asked a.0.now)
-start-list-leaves κs a x e p = p
+pub start_list_leaves : Allows 1 start_list.ps start_list.r start_list_says.Post (λ κs a x e. outcome (of_done x) e.0.now ≡ start_asked a.0.now)
+start_list_leaves κs a x e p = p
 
-pub set-in-list-leaves : Allows 3 set-in-list.ps set-in-list.r set-in-list-says.Post (λ κs a x e. outcome (of_done x) e.1.1.1.1.0.now ≡ list_asked a.0 a.1.0 a.1.1.0.now a.1.1.1.0.now a.1.1.1.1.0.now)
-set-in-list-leaves κs a x e p = p
+pub set_in_list_leaves : Allows 3 set_in_list.ps set_in_list.r set_in_list_says.Post (λ κs a x e. outcome (of_done x) e.1.1.1.1.0.now ≡ list_asked a.0 a.1.0 a.1.1.0.now a.1.1.1.0.now a.1.1.1.1.0.now)
+set_in_list_leaves κs a x e p = p
 
 -- and so what C gets
-pub c-start-leaves : Allows 1 c-start.ps c-start.r c-start-says.Post (λ κs a x e. outcome x e.0.now ≡ numbered (start_asked a.0.now))
-c-start-leaves κs a x e p = p
+pub c_start-leaves : Allows 1 c_start.ps c_start.r c_start_says.Post (λ κs a x e. outcome x e.0.now ≡ numbered (start_asked a.0.now))
+c_start-leaves κs a x e p = p
 
-pub c-set-leaves : Allows 3 c-set.ps c-set.r c-set-says.Post (λ κs a x e. outcome x e.1.1.1.1.1.1.0.now ≡ numbered (list_asked (turn a.0 a.1.0 a.1.1.0) a.1.1.1.0 a.1.1.1.1.0.now a.1.1.1.1.1.0.now a.1.1.1.1.1.1.0.now))
-c-set-leaves κs a x e p = p
+pub c_set-leaves : Allows 3 c_set.ps c_set.r c_set_says.Post (λ κs a x e. outcome x e.1.1.1.1.1.1.0.now ≡ numbered (list_asked (turn a.0 a.1.0 a.1.1.0) a.1.1.1.0 a.1.1.1.1.0.now a.1.1.1.1.1.0.now a.1.1.1.1.1.1.0.now))
+c_set-leaves κs a x e p = p
 
 -- ---- what stands in the outcome
 
@@ -105,40 +105,40 @@ module _ (rack : Rack) (statuses : List ℕ) (cs : List Call) where
   -- ---- the laws that it rests on
 
   demand : (t : ℕ) {c : Call} → Accepted rack statuses t c → Demand2 (exchange_for rack statuses c)
-  demand t {c} a = demand-2 (exchange_for rack statuses c) (record { ten = a.turn.rack.few; three = a.turn.rack.deep; sends = a.turn.sender })
+  demand t {c} a = demand_2 (exchange_for rack statuses c) (record { ten = a.turn.rack.few; three = a.turn.rack.deep; sends = a.turn.sender })
 
-  good-card : (c : Call) {p : ℕ} → Good p → GoodCard (exchange_for rack statuses c) p
-  good-card c g = record { card = g.card; is_good = g.is_good }
+  good_card : (c : Call) {p : ℕ} → Good p → GoodCard (exchange_for rack statuses c) p
+  good_card c g = record { card = g.card; is_good = g.is_good }
 
   equal : Enough → arbitraries rack (statuses_of statuses) ≤ rack.m → (t p q : ℕ) → t < 10 → Good p → Good q → (z : Option Call) → last_for rack statuses t cs ≡ z → told t p ≡ told t q
-  equal e f t p q h i j none l = unset-word rack statuses cs h i.ten l ∙ sym (unset-word rack statuses cs h j.ten l)
+  equal e f t p q h i j none l = unset_word rack statuses cs h i.ten l ∙ sym (unset_word rack statuses cs h j.ten l)
   equal e f t p q h i j (some c) l =
-      let d = demand t (last-accepted rack statuses t cs l) in
-      set_word rack statuses cs h i.ten l i.card ∙ d.agree (d.bound_says.1 (e, f)) p q (good-card c i) (good-card c j) ∙ sym (set_word rack statuses cs h j.ten l j.card)
+      let d = demand t (last_accepted rack statuses t cs l) in
+      set_word rack statuses cs h i.ten l i.card ∙ d.agree (d.bound_says.1 (e, f)) p q (good_card c i) (good_card c j) ∙ sym (set_word rack statuses cs h j.ten l j.card)
 
   -- the settings of a card of the rack for an exchange that is not refused
   checked : (t : ℕ) {c : Call} → Accepted rack statuses t c → (p : ℕ) → T (fits rack p) → verdict (settings_checks (card_of (turn_for rack c) p)) ≡ 0
   checked t {c} a p f =
-      rest-decides (turn_checks (turn_for rack c)) _ tt (no-verdicts (turn_checks (turn_for rack c)) _ tt a.number).0
-      ∙ none-verdict _ (ap not (T-eq (fits rack p) f), tt)
+      rest_decides (turn_checks (turn_for rack c)) _ tt (no_verdicts (turn_checks (turn_for rack c)) _ tt a.number).0
+      ∙ none-verdict _ (ap not (T_eq (fits rack p) f), tt)
 
   pub outcome-holds : Outcome
   outcome-holds = record {
     columns = λ e f t p q h i j. equal e f t p q h i j (last_for rack statuses t cs) refl;
     sender_good = λ e t h s c l p i.
-        let a = last-accepted rack statuses t cs l in
+        let a = last_accepted rack statuses t cs l in
         let d = demand t a in
-        set_word rack statuses cs h i.ten l i.card ∙ d.sender_good (d.enough_says.1 e) (rw a.of_sender s) a.ordinary p (good-card c i);
-    no_sender = λ t p h g. absent-sender rack statuses cs h g;
-    no_card = λ t p h g. absent-card rack statuses cs h g;
-    not_set = λ t p h g. unset-word rack statuses cs h g;
-    in_list = λ list long t p h g. started-word rack statuses list long cs h g;
+        set_word rack statuses cs h i.ten l i.card ∙ d.sender_good (d.enough_says.1 e) (rw a.of_sender s) a.ordinary p (good_card c i);
+    no_sender = λ t p h g. absent_sender rack statuses cs h g;
+    no_card = λ t p h g. absent_card rack statuses cs h g;
+    not_set = λ t p h g. unset_word rack statuses cs h g;
+    in_list = λ list long t p h g. started_word rack statuses list long cs h g;
     own_column = λ t c h l p g f list long xs dealt-there.
-        let a = last-accepted rack statuses t cs l in
+        let a = last_accepted rack statuses t cs l in
         let s = card_of (turn_for rack c) p in
         let fine = checked t a p f in
         ap (λ (u : ℕ). held_asked (book_from u (open_called s list xs))) (sym a.of_sender)
-        ∙ ap held_asked (mixed-run s fine list long xs)
-        ∙ holds-dealt (exchange_for rack statuses c) p fine (book_from s.t list) (from-sized (good-has s list fine long)) (own_of s xs) dealt-there
+        ∙ ap held_asked (mixed_run s fine list long xs)
+        ∙ holds-dealt (exchange_for rack statuses c) p fine (book_from s.t list) (from_sized (good_has s list fine long)) (own_of s xs) dealt-there
         ∙ ap value (sym (set_word rack statuses cs h g l f));
   }

@@ -19,16 +19,16 @@ use Rattle.book.specs.Book.{Book, halves, Sized}
 use Rattle.book.specs.Asked.{book_checks}
 use Rattle.entering.specs.Entered.{contradicted, entered}
 use Rattle.entering.specs.Run.{Entry, step}
-use Rattle.entering.proofs.Entering.{entered-one-word, entered-stays, entered-on-the-way}
-use Rattle.entering.proofs.OnlyLive.{Alike, entered-alike}
+use Rattle.entering.proofs.Entering.{entered_one_word, entered_stays, entered_on_the_way}
+use Rattle.entering.proofs.OnlyLive.{Alike, entered_alike}
 use Rattle.refilling.specs.Refilled.{refilled, refill_asked}
-use Rattle.refilling.proofs.Refilled.{refilled-agrees}
+use Rattle.refilling.proofs.Refilled.{refilled_agrees}
 use Rattle.arrivals.specs.Entry.{frame_asked}
 use Rattle.arrivals.specs.Run.{Arrival, word, frame, taken, entry_of, left_by, arrived}
-use Rattle.arrivals.proofs.Runs.{call-steps}
+use Rattle.arrivals.proofs.Runs.{call_steps}
 use Rattle.books.specs.Books.{books_words, book_from}
 use Rattle.books.specs.Run.{enters, refills, Mixed, own, again, other, called}
-use Rattle.books.proofs.Parts.{good-has}
+use Rattle.books.proofs.Parts.{good_has}
 use Rattle.books.proofs.Runs.{other-part, long_kept, own_book}
 
 -- ---- one entering, whatever the settings and the lists
@@ -40,49 +40,49 @@ by_after P zero b made p q = q
 by_after P (suc v) b made p q = p
 
 module _ (s : Settings) (b : Book) (j : ℕ) where
-  pub one-word-left : (x : Arrival) → j ≢ (entry_of x).slot → at (left_by s b x).words j ≡ at b.words j
+  pub one_word_left : (x : Arrival) → j ≢ (entry_of x).slot → at (left_by s b x).words j ≡ at b.words j
   unfolding outcome_by frame_asked
-  one-word-left (word e) n = by_after (λ c. at c.words j ≡ at b.words j) _ b _ refl (entered-one-word (rule_of s.rack) s b e.slot e.word j n)
-  one-word-left (frame current bytes) n = by_after (λ c. at c.words j ≡ at b.words j) _ b _ refl (entered-one-word (rule_of s.rack) s b _ _ j n)
+  one_word_left (word e) n = by_after (λ c. at c.words j ≡ at b.words j) _ b _ refl (entered_one_word (rule_of s.rack) s b e.slot e.word j n)
+  one_word_left (frame current bytes) n = by_after (λ c. at c.words j ≡ at b.words j) _ b _ refl (entered_one_word (rule_of s.rack) s b _ _ j n)
 
-  pub on-the-way-left : (x : Arrival) → (Memᴰ j (way (entry_of x).slot) → ⊥) → at (left_by s b x).votes j ≡ at b.votes j
+  pub on_the_way_left : (x : Arrival) → (Memᴰ j (way (entry_of x).slot) → ⊥) → at (left_by s b x).votes j ≡ at b.votes j
   unfolding outcome_by frame_asked
-  on-the-way-left (word e) off = by_after (λ c. at c.votes j ≡ at b.votes j) _ b _ refl (entered-on-the-way (rule_of s.rack) s b e.slot e.word j off)
-  on-the-way-left (frame current bytes) off = by_after (λ c. at c.votes j ≡ at b.votes j) _ b _ refl (entered-on-the-way (rule_of s.rack) s b _ _ j off)
+  on_the_way_left (word e) off = by_after (λ c. at c.votes j ≡ at b.votes j) _ b _ refl (entered_on_the_way (rule_of s.rack) s b e.slot e.word j off)
+  on_the_way_left (frame current bytes) off = by_after (λ c. at c.votes j ≡ at b.votes j) _ b _ refl (entered_on_the_way (rule_of s.rack) s b _ _ j off)
 
   -- a contradicted slot stays so
-  pub stays-left : (x : Arrival) → at b.words j ≡ contradicted → at (left_by s b x).words j ≡ contradicted
+  pub stays_left : (x : Arrival) → at b.words j ≡ contradicted → at (left_by s b x).words j ≡ contradicted
   unfolding outcome_by frame_asked
-  stays-left (word e) h = by_after (λ c. at c.words j ≡ contradicted) _ b _ h (entered-stays (rule_of s.rack) s b e.slot e.word j h)
-  stays-left (frame current bytes) h = by_after (λ c. at c.words j ≡ contradicted) _ b _ h (entered-stays (rule_of s.rack) s b _ _ j h)
+  stays_left (word e) h = by_after (λ c. at c.words j ≡ contradicted) _ b _ h (entered_stays (rule_of s.rack) s b e.slot e.word j h)
+  stays_left (frame current bytes) h = by_after (λ c. at c.words j ≡ contradicted) _ b _ h (entered_stays (rule_of s.rack) s b _ _ j h)
 
 -- ---- a contradicted slot, through a run
 
-pub stays-arrived : (s : Settings) (xs : List Arrival) (b : Book) (j : ℕ) → at b.words j ≡ contradicted → at (arrived s b xs).words j ≡ contradicted
+pub stays_arrived : (s : Settings) (xs : List Arrival) (b : Book) (j : ℕ) → at b.words j ≡ contradicted → at (arrived s b xs).words j ≡ contradicted
 unfolding arrived
-stays-arrived s [] b j h = h
-stays-arrived s (x ∷ xs) b j h = stays-arrived s xs (left_by s b x) j (stays-left s b j x h)
+stays_arrived s [] b j h = h
+stays_arrived s (x ∷ xs) b j h = stays_arrived s xs (left_by s b x) j (stays_left s b j x h)
 
 -- and in the long list
-pub stays-called : (s : Settings) → verdict (settings_checks s) ≡ 0 → (xs : List (Mixed s)) (l : List ℤ) → length l ≡ books_words → (j : ℕ) → at (book_from s.t l).words j ≡ contradicted → at (book_from s.t (called s l xs)).words j ≡ contradicted
+pub stays_called : (s : Settings) → verdict (settings_checks s) ≡ 0 → (xs : List (Mixed s)) (l : List ℤ) → length l ≡ books_words → (j : ℕ) → at (book_from s.t l).words j ≡ contradicted → at (book_from s.t (called s l xs)).words j ≡ contradicted
 unfolding called outcome_by
-stays-called s good [] l long j h = h
-stays-called s good (own x ∷ xs) l long j h =
-    stays-called s good xs _ (long_kept s l (enters x) ∙ long) j
-    (ap (λ (b : Book). at b.words j) (own_book s l (good-has s l good long) (enters x)) ∙ stays-left s (book_from s.t l) j x h)
-stays-called s good (again ∷ xs) l long j h =
-    stays-called s good xs _ (long_kept s l refills ∙ long) j
-    (ap (λ (b : Book). at b.words j) (own_book s l (good-has s l good long) refills) ∙ by_after (λ c. at c.words j ≡ contradicted) _ (book_from s.t l) _ h h)
-stays-called s good (other o n a ∷ xs) l long j h =
-    stays-called s good xs _ (long_kept o l a ∙ long) j
+stays_called s good [] l long j h = h
+stays_called s good (own x ∷ xs) l long j h =
+    stays_called s good xs _ (long_kept s l (enters x) ∙ long) j
+    (ap (λ (b : Book). at b.words j) (own_book s l (good_has s l good long) (enters x)) ∙ stays_left s (book_from s.t l) j x h)
+stays_called s good (again ∷ xs) l long j h =
+    stays_called s good xs _ (long_kept s l refills ∙ long) j
+    (ap (λ (b : Book). at b.words j) (own_book s l (good_has s l good long) refills) ∙ by_after (λ c. at c.words j ≡ contradicted) _ (book_from s.t l) _ h h)
+stays_called s good (other o n a ∷ xs) l long j h =
+    stays_called s good xs _ (long_kept o l a ∙ long) j
     (ap (λ (p : List ℤ). at (halves p).words j) (other-part o l a s.t (λ q. n (sym q))) ∙ h)
 
 -- ---- slots that are not live
 
 -- books that are alike at the live slots stay so
-pub alike-left : (s : Settings) → verdict (settings_checks s) ≡ 0 → (b c : Book) → Sized b → Sized c → Alike s b c → (x : Arrival) → Alike s (left_by s b x) (left_by s c x)
+pub alike_left : (s : Settings) → verdict (settings_checks s) ≡ 0 → (b c : Book) → Sized b → Sized c → Alike s b c → (x : Arrival) → Alike s (left_by s b x) (left_by s c x)
 unfolding step
-alike-left s good b c y z same x = rw (call-steps s good b y x, call-steps s good c z x) (go (taken s x) (live s e.slot) refl)
+alike_left s good b c y z same x = rw (call_steps s good b y x, call_steps s good c z x) (go (taken s x) (live s e.slot) refl)
   where
     e : Entry
     e = entry_of x
@@ -91,7 +91,7 @@ alike-left s good b c y z same x = rw (call-steps s good b y x, call-steps s goo
     into d = entered (rule_of s.rack) s d e.slot e.word
 
     go : (t l : Bool) → live s e.slot ≡ l → Alike s (cond t (cond l (into b) b) b) (cond t (cond l (into c) c) c)
-    go true true q = entered-alike (rule_of s.rack) s b c same y z e.slot e.word (rw q tt)
+    go true true q = entered_alike (rule_of s.rack) s b c same y z e.slot e.word (rw q tt)
     go true false q = same
     go false l q = same
 
@@ -103,5 +103,5 @@ module _ (s : Settings) (b : Book) (done : (refill_asked s b).yields ≡ value t
   made P p = rw (value-verdict tt (verdict (book_checks s b)) done).0 p
 
   -- every live vote is the vote worked out afresh
-  pub refilled-afresh : (k : ℕ) → T (live s k) → at (refill_asked s b).leaves.votes k ≡ vote (rule_of s.rack) s b.words k
-  refilled-afresh k t = made (λ c. at c.votes k ≡ vote (rule_of s.rack) s b.words k) (refilled-agrees (rule_of s.rack) s b.words b.votes k t)
+  pub refilled_afresh : (k : ℕ) → T (live s k) → at (refill_asked s b).leaves.votes k ≡ vote (rule_of s.rack) s b.words k
+  refilled_afresh k t = made (λ c. at c.votes k ≡ vote (rule_of s.rack) s b.words k) (refilled_agrees (rule_of s.rack) s b.words b.votes k t)

@@ -16,11 +16,11 @@ use Rattle.ages.specs.Ages.{age_of, class_of}
 use Rattle.exchange.specs.Exchange.{sent, dealt_at, received, answer_of}
 use Rattle.demands.specs.Worked.{same_text, worked, shown, all_right}
 
-pub table-is-right : all_right worked ≡ true
+pub table_is_right : all_right worked ≡ true
 unfolding worked all_right kind_of read_at wrapped unwrapped same kept occurs over_half first majority slot_of level relays_by all none_of different fits may_relay live table over vote_from vote_in vote age_of class_of sent dealt_at received answer_of
-table-is-right = refl
+table_is_right = refl
 
 -- and of the further cases
-pub further-is-right : all_right shown ≡ true
+pub further_is_right : all_right shown ≡ true
 unfolding shown all_right same same_text slot_of level used all slot_asked above_asked verdict answer digits_of decimal_of leaves after_e all_are agreed
-further-is-right = refl
+further_is_right = refl

@@ -10,11 +10,11 @@ use Rattle.words.specs.Rule.{Rule}
 use Rattle.words.proofs.Lawful.{Lawful}
 use Rattle.settings.specs.declared.Settings.{Settings}
 use Rattle.paths.specs.Slots.{way, live}
-use Rattle.paths.proofs.Live.{live-zero}
+use Rattle.paths.proofs.Live.{live_zero}
 use Rattle.vote.specs.Vote.{vote}
 use Rattle.book.specs.Book.{Book, opened, held}
 use Rattle.entering.specs.Run.{Entry, step, run, words_left}
-use Rattle.entering.proofs.Entering.{entered-one-word, entered-on-the-way}
+use Rattle.entering.proofs.Entering.{entered_one_word, entered_on_the_way}
 use Rattle.entering.proofs.FromOpening.{run-votes}
 
 pub record Demand3 (R : Rule) (s : Settings) : Type 0 where
@@ -28,11 +28,11 @@ pub record Demand3 (R : Rule) (s : Settings) : Type 0 where
   pub on_the_way : (b : Book) (e : Entry) (j : ℕ) → (Memᴰ j (way e.slot) → ⊥) → at (step R s b e).votes j ≡ at b.votes j
 
 -- for any lawful rule
-pub demand-3 : (R : Rule) (s : Settings) → Lawful R → Demand3 R s
+pub demand_3 : (R : Rule) (s : Settings) → Lawful R → Demand3 R s
 unfolding step
-demand-3 R s L = record {
-  held = λ es. run-votes R s L es 0 (live-zero s);
+demand_3 R s L = record {
+  held = λ es. run-votes R s L es 0 (live_zero s);
   held_votes = run-votes R s L;
-  one_word = λ b e j n. cond-case (λ (c : Book). at c.words j ≡ at b.words j) (live s e.slot) _ _ (λ t. entered-one-word R s b e.slot e.word j n) (λ t. refl);
-  on_the_way = λ b e j off. cond-case (λ (c : Book). at c.votes j ≡ at b.votes j) (live s e.slot) _ _ (λ t. entered-on-the-way R s b e.slot e.word j off) (λ t. refl);
+  one_word = λ b e j n. cond-case (λ (c : Book). at c.words j ≡ at b.words j) (live s e.slot) _ _ (λ t. entered_one_word R s b e.slot e.word j n) (λ t. refl);
+  on_the_way = λ b e j off. cond-case (λ (c : Book). at c.votes j ≡ at b.votes j) (live s e.slot) _ _ (λ t. entered_on_the_way R s b e.slot e.word j off) (λ t. refl);
 }

@@ -14,23 +14,23 @@ use Rattle.words.proofs.Lawful.{Lawful}
 use Rattle.settings.specs.declared.Settings.{Settings}
 use Rattle.paths.specs.Slots.{way, live}
 use Rattle.paths.proofs.Live.{live-slot}
-use Rattle.vote.proofs.Votes.{vote-local}
+use Rattle.vote.proofs.Votes.{vote_local}
 use Rattle.book.specs.Book.{Book, Sized}
 use Rattle.entering.specs.Entered.{contradicted, holds, stored, entered}
 use Rattle.entering.specs.Run.{Agrees}
 use Rattle.entering.proofs.Holding.{stays}
-use Rattle.entering.proofs.Along.{way-falls, length-along, along-other, along-right}
+use Rattle.entering.proofs.Along.{way_falls, length_along, along_other, along_right}
 
 module _ (R : Rule) (s : Settings) (b : Book) (k : ℕ) (w : ℤ) where
   -- it alters one stored word at most
-  pub entered-one-word : (j : ℕ) → j ≢ k → at (entered R s b k w).words j ≡ at b.words j
+  pub entered_one_word : (j : ℕ) → j ≢ k → at (entered R s b k w).words j ≡ at b.words j
   unfolding entered stored
-  entered-one-word j n = get_or-set_other b.words k j _ (pos 0) n
+  entered_one_word j n = get_or-set_other b.words k j _ (pos 0) n
 
   -- a contradicted slot stays so
-  pub entered-stays : (j : ℕ) → at b.words j ≡ contradicted → at (entered R s b k w).words j ≡ contradicted
+  pub entered_stays : (j : ℕ) → at b.words j ≡ contradicted → at (entered R s b k w).words j ≡ contradicted
   unfolding entered stored
-  entered-stays j e = go (ℕ_discrete j k)
+  entered_stays j e = go (ℕ_discrete j k)
     where
       go : Dec (j ≡ k) → at (set b.words k (holds (at b.words k) w)) j ≡ contradicted
       go (yes q) =
@@ -39,18 +39,18 @@ module _ (R : Rule) (s : Settings) (b : Book) (k : ℕ) (w : ℤ) where
       go (no n) = get_or-set_other b.words k j _ (pos 0) n ∙ e
 
   -- and no held vote but those on the way from its slot up to slot 0
-  pub entered-on-the-way : (j : ℕ) → (Memᴰ j (way k) → ⊥) → at (entered R s b k w).votes j ≡ at b.votes j
+  pub entered_on_the_way : (j : ℕ) → (Memᴰ j (way k) → ⊥) → at (entered R s b k w).votes j ≡ at b.votes j
   unfolding entered
-  entered-on-the-way j off = along-other R s _ (way k) b.votes j off
+  entered_on_the_way j off = along_other R s _ (way k) b.votes j off
 
   -- the lists keep their length
   pub entered-sized : Sized b → Sized (entered R s b k w)
   unfolding entered stored
-  entered-sized z = record { words_long = length-set b.words k _ ∙ z.words_long; votes_long = length-along R s _ (way k) b.votes ∙ z.votes_long }
+  entered-sized z = record { words_long = length-set b.words k _ ∙ z.words_long; votes_long = length_along R s _ (way k) b.votes ∙ z.votes_long }
 
   -- every live held vote stays the vote from the words
-  pub entered-agrees : Lawful R → T (live s k) → Sized b → Agrees R s b → Agrees R s (entered R s b k w)
+  pub entered_agrees : Lawful R → T (live s k) → Sized b → Agrees R s b → Agrees R s (entered R s b k w)
   unfolding entered stored
-  entered-agrees L t z h =
-      along-right R s _ L (suc k) (way k) b.votes (way-falls s k t) z.votes_long
-      (λ j u off. h j u ∙ sym (vote-local R s b.words k _ (live-slot s k t) j off))
+  entered_agrees L t z h =
+      along_right R s _ L (suc k) (way k) b.votes (way_falls s k t) z.votes_long
+      (λ j u off. h j u ∙ sym (vote_local R s b.words k _ (live-slot s k t) j off))

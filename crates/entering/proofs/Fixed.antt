@@ -5,16 +5,16 @@ use lib.IntN.{ℤ}
 use Rattle.ground.specs.Answer.{Outcome, outcome}
 use Rattle.ground.specs.Fixes.{Fixes}
 use Rattle.ground.specs.declared.Done.{Done}
-use Rattle.ground.proofs.Answers.{outcome-apart}
+use Rattle.ground.proofs.Answers.{outcome_apart}
 use Rattle.book.specs.Book.{Book, book_of}
 use Rattle.book.proofs.Halves.{part_apart}
 use Rattle.entering.proofs.enter.Kinds as enter
-use Rattle.entering.proofs.enter.Reads as enter-says
-use Rattle.entering.proofs.enter_part.Kinds as enter-part
-use Rattle.entering.proofs.enter_part.Reads as enter-part-says
+use Rattle.entering.proofs.enter.Reads as enter_says
+use Rattle.entering.proofs.enter_part.Kinds as enter_part
+use Rattle.entering.proofs.enter_part.Reads as enter_part_says
 
-pub enter-fixed : Fixes 2 enter.ps enter.r enter-says.Post (Outcome Done Book) (λ κs x s. outcome x (book_of s.1.0.now s.1.1.0.now))
-enter-fixed κs a x y s t p q = outcome-apart x y (p ∙ sym q)
+pub enter_fixed : Fixes 2 enter.ps enter.r enter_says.Post (Outcome Done Book) (λ κs x s. outcome x (book_of s.1.0.now s.1.1.0.now))
+enter_fixed κs a x y s t p q = outcome_apart x y (p ∙ sym q)
 
-pub enter-part-fixed : Fixes 1 enter-part.ps enter-part.r enter-part-says.Post (Outcome Done (List ℤ)) (λ κs x s. outcome x s.1.0.now)
-enter-part-fixed κs a x y s t p q = part_apart x y (p ∙ sym q)
+pub enter_part_fixed : Fixes 1 enter_part.ps enter_part.r enter_part_says.Post (Outcome Done (List ℤ)) (λ κs x s. outcome x s.1.0.now)
+enter_part_fixed κs a x y s t p q = part_apart x y (p ∙ sym q)

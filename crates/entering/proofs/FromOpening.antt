@@ -9,7 +9,7 @@ use lib.IntN.{ℤ, pos}
 use lib.ListN.{get_or-replicate}
 use Rattle.ground.specs.Lists.{at}
 use Rattle.ground.proofs.Bools.{cond-case, cond_same}
-use Rattle.ground.proofs.Lists.{is-table}
+use Rattle.ground.proofs.Lists.{is_table}
 use Rattle.words.specs.Word.{E}
 use Rattle.words.specs.Rule.{Rule}
 use Rattle.words.proofs.Lawful.{Lawful}
@@ -24,7 +24,7 @@ use Rattle.book.proofs.Asking.{opened-sized}
 use Rattle.entering.specs.Entered.{holds, stored, entered}
 use Rattle.entering.specs.Run.{Entry, step, run, is_accepted, left_at, words_left, Agrees}
 use Rattle.entering.proofs.Along.{at_set}
-use Rattle.entering.proofs.Entering.{entered-sized, entered-agrees}
+use Rattle.entering.proofs.Entering.{entered-sized, entered_agrees}
 
 -- ---- a book just opened
 
@@ -41,10 +41,10 @@ opened-vote R k h = get_or-replicate slots k R.none (pos 0) h
 module _ (R : Rule) (s : Settings) where
   -- ---- what an entering keeps a run keeps
 
-  run-keeps : (P : Book → Type 0) → ((b : Book) (e : Entry) → P b → P (step R s b e)) → (b : Book) (es : List Entry) → P b → P (run R s b es)
+  run_keeps : (P : Book → Type 0) → ((b : Book) (e : Entry) → P b → P (step R s b e)) → (b : Book) (es : List Entry) → P b → P (run R s b es)
   unfolding run
-  run-keeps P f b [] p = p
-  run-keeps P f b (e ∷ es) p = run-keeps P f (step R s b e) es (f b e p)
+  run_keeps P f b [] p = p
+  run_keeps P f b (e ∷ es) p = run_keeps P f (step R s b e) es (f b e p)
 
   -- the lists keep their length, the entering refused or not
   pub step-sized : (b : Book) (e : Entry) → Sized b → Sized (step R s b e)
@@ -52,7 +52,7 @@ module _ (R : Rule) (s : Settings) where
   step-sized b e z = cond-case Sized (live s e.slot) _ _ (λ t. entered-sized R s b e.slot e.word z) (λ n. z)
 
   pub run-sized : (b : Book) (es : List Entry) → Sized b → Sized (run R s b es)
-  run-sized = run-keeps Sized step-sized
+  run-sized = run_keeps Sized step-sized
 
   -- ---- the words after a run
 
@@ -77,24 +77,24 @@ module _ (R : Rule) (s : Settings) where
   pub run-words : (es : List Entry) → (run R s (opened R) es).words ≡ words_left s es
   unfolding words_left
   run-words es =
-      is-table slots _ (pos 0) _ (run-sized (opened R) es (opened-sized R)).words_long
+      is_table slots _ (pos 0) _ (run-sized (opened R) es (opened-sized R)).words_long
       (λ k h. run-word es (opened R) k (opened-sized R) ∙ ap (left_at s k es) (opened-word R k h))
 
   -- ---- the votes after a run
 
   module _ (L : Lawful R) where
     -- in a book just opened every live held vote is the vote from the words
-    opened-agrees : Agrees R s (opened R)
-    opened-agrees k t =
+    opened_agrees : Agrees R s (opened R)
+    opened_agrees k t =
         opened-vote R k (live-slot s k t) ∙ sym (vote-none R s L (opened R).words (λ j u. opened-word R j (live-slot s j u)) k t)
 
     -- and after an entering they still are, refused or not
-    step-agrees : (b : Book) (e : Entry) → Sized b → Agrees R s b → Agrees R s (step R s b e)
+    step_agrees : (b : Book) (e : Entry) → Sized b → Agrees R s b → Agrees R s (step R s b e)
     unfolding step
-    step-agrees b e z h = cond-case (Agrees R s) (live s e.slot) _ _ (λ t. entered-agrees R s b e.slot e.word L t z h) (λ n. h)
+    step_agrees b e z h = cond-case (Agrees R s) (live s e.slot) _ _ (λ t. entered_agrees R s b e.slot e.word L t z h) (λ n. h)
 
     -- after a run from a book just opened each live held vote is the vote worked out afresh from the words left
     pub run-votes : (es : List Entry) (k : ℕ) → T (live s k) → at (run R s (opened R) es).votes k ≡ vote R s (words_left s es) k
     run-votes es k t =
-        (run-keeps (λ b. Sized b × Agrees R s b) (λ b e p. (step-sized b e p.0, step-agrees b e p.0 p.1)) (opened R) es (opened-sized R, opened-agrees)).1 k t
+        (run_keeps (λ b. Sized b × Agrees R s b) (λ b e p. (step-sized b e p.0, step_agrees b e p.0 p.1)) (opened R) es (opened-sized R, opened_agrees)).1 k t
         ∙ ap (λ (l : List ℤ). vote R s l k) (run-words es)

@@ -14,11 +14,11 @@ use Rattle.settings.specs.Settings.{slots}
 use Rattle.settings.specs.declared.Settings.{Settings}
 use Rattle.paths.specs.Slots.{below, level, way, live}
 use Rattle.paths.proofs.Live.{live-slot}
-use Rattle.vote.proofs.Votes.{from-same}
+use Rattle.vote.proofs.Votes.{from_same}
 use Rattle.book.specs.Book.{Book, Sized}
 use Rattle.entering.specs.Entered.{holds, stored, remade, remade_along, entered}
 use Rattle.entering.specs.Asked.{enter_asked}
-use Rattle.entering.proofs.Along.{at_set, Falls, way-falls}
+use Rattle.entering.proofs.Along.{at_set, Falls, way_falls}
 
 -- two lists hold the same at every live slot
 abbrev pub SameLive : Settings → List ℤ → List ℤ → Type 0
@@ -40,26 +40,26 @@ unfolding stored
 stored_same s l m k w y z t same = set_same s l m k _ _ y z (live-slot s k t) (ap (λ (v : ℤ). holds v w) (same k t)) same
 
 -- votes re-made in both at the same slots
-along-same : (R : Rule) (s : Settings) (ws us : List ℤ) → SameLive s ws us → (n : ℕ) (ks : List ℕ) (vs xs : List ℤ) → Falls s n ks → length vs ≡ slots → length xs ≡ slots → SameLive s vs xs → SameLive s (remade_along R s ws ks vs) (remade_along R s us ks xs)
+along_same : (R : Rule) (s : Settings) (ws us : List ℤ) → SameLive s ws us → (n : ℕ) (ks : List ℕ) (vs xs : List ℤ) → Falls s n ks → length vs ≡ slots → length xs ≡ slots → SameLive s vs xs → SameLive s (remade_along R s ws ks vs) (remade_along R s us ks xs)
 unfolding remade_along remade
-along-same R s ws us same n [] vs xs f y z h = h
-along-same R s ws us same n (k ∷ ks) vs xs f y z h =
-    along-same R s ws us same k ks _ _ f.2 (length-set vs k _ ∙ y) (length-set xs k _ ∙ z)
+along_same R s ws us same n [] vs xs f y z h = h
+along_same R s ws us same n (k ∷ ks) vs xs f y z h =
+    along_same R s ws us same k ks _ _ f.2 (length-set vs k _ ∙ y) (length-set xs k _ ∙ z)
     (set_same s vs xs k _ _ y z (live-slot s k f.1)
-    (from-same R s ws us _ _ k (same k f.1) (λ n q a b t. ap (R.read (level (below k q))) (h (below k q) t)))
+    (from_same R s ws us _ _ k (same k f.1) (λ n q a b t. ap (R.read (level (below k q))) (h (below k q) t)))
     h)
 
 -- the same entering into both
-pub entered-alike : (R : Rule) (s : Settings) (b c : Book) → Alike s b c → Sized b → Sized c → (k : ℕ) (w : ℤ) → T (live s k) → Alike s (entered R s b k w) (entered R s c k w)
+pub entered_alike : (R : Rule) (s : Settings) (b c : Book) → Alike s b c → Sized b → Sized c → (k : ℕ) (w : ℤ) → T (live s k) → Alike s (entered R s b k w) (entered R s c k w)
 unfolding entered
-entered-alike R s b c same y z k w t =
+entered_alike R s b c same y z k w t =
     let words = stored_same s b.words c.words k w y.words_long z.words_long t same.words_same in
     record {
       words_same = words;
-      votes_same = along-same R s _ _ words (suc k) (way k) b.votes c.votes (way-falls s k t) y.votes_long z.votes_long same.votes_same;
+      votes_same = along_same R s _ _ words (suc k) (way k) b.votes c.votes (way_falls s k t) y.votes_long z.votes_long same.votes_same;
     }
 
 -- what an entering yields, done or refused, is the same for any lists of the same lengths
-pub entering-yields : (s : Settings) (b c : Book) → length b.words ≡ length c.words → length b.votes ≡ length c.votes → (k : ℕ) (w : ℤ) → (enter_asked s b k w).yields ≡ (enter_asked s c k w).yields
+pub entering_yields : (s : Settings) (b c : Book) → length b.words ≡ length c.words → length b.votes ≡ length c.votes → (k : ℕ) (w : ℤ) → (enter_asked s b k w).yields ≡ (enter_asked s c k w).yields
 unfolding outcome_by
-entering-yields s b c words votes k w = rw (words, votes)
+entering_yields s b c words votes k w = rw (words, votes)

@@ -11,27 +11,27 @@ use lib.IntN.{ℤ, pos}
 use lib.ListN.{length, set, take, drop, length-set}
 use lib.Seq.{get_or-set_same, get_or-set_other, get_or-take}
 use Rattle.ground.specs.Lists.{at}
-use Rattle.ground.proofs.Bools.{T-eq}
+use Rattle.ground.proofs.Bools.{T_eq}
 use Rattle.ground.proofs.Lists.{length-table}
 use Rattle.words.specs.Rule.{Rule}
 use Rattle.settings.specs.Settings.{slots}
 use Rattle.settings.specs.declared.Settings.{Settings}
 use Rattle.paths.specs.Slots.{above, last_relay, level, way_by, way, live, lengthens, rounds_left}
 use Rattle.paths.specs.Walk.{may}
-use Rattle.paths.proofs.Levels.{level-pos, level-above, below-above, way-cons}
+use Rattle.paths.proofs.Levels.{level_pos, level-above, below-above, way_cons}
 use Rattle.paths.proofs.Live.{live-slot, live-level, live_own, live-above, below-lengthens}
 use Rattle.paths.proofs.Members.{none-next}
-use Rattle.paths.proofs.Handed.{Handed, handed-table, left_other}
+use Rattle.paths.proofs.Handed.{Handed, handed_table, left_other}
 use Rattle.vote.specs.Vote.{rule_of, decided}
 use Rattle.entering.specs.Entered.{remade, remade_along}
 use Rattle.entering.specs.Remaking.{held_votes, member_remade, way_words, Remakes, Enters}
-use Rattle.entering.proofs.Leaf.{left-inner, made_more, remade-handed}
+use Rattle.entering.proofs.Leaf.{left_inner, made_more, remade_handed}
 
 -- ---- one step up
 
 -- the slot above a live slot over 0 is live
-up-live : (s : Settings) (k : ℕ) → T (live s k) → 0 < k → T (live s (above k))
-up-live s k t p = let (d, e) = level-pos k (live-slot s k t) p in live-above s k d t e
+up_live : (s : Settings) (k : ℕ) → T (live s k) → 0 < k → T (live s (above k))
+up_live s k t p = let (d, e) = level_pos k (live-slot s k t) p in live-above s k d t e
 
 -- a way begins at its slot
 way-first : (d k : ℕ) → way_by d k ≡ k ∷ drop 1 (way_by d k)
@@ -40,29 +40,29 @@ way-first zero k = refl
 way-first (suc d) k = refl
 
 -- the votes re-made from slot k up, once its own is
-along-step : (R : Rule) (s : Settings) (ws vs : List ℤ) (k : ℕ) {v : ℤ} → v ≡ remade R s ws vs k → remade_along R s ws (drop 1 (way k)) (set vs k v) ≡ remade_along R s ws (way k) vs
+along_step : (R : Rule) (s : Settings) (ws vs : List ℤ) (k : ℕ) {v : ℤ} → v ≡ remade R s ws vs k → remade_along R s ws (drop 1 (way k)) (set vs k v) ≡ remade_along R s ws (way k) vs
 unfolding remade_along
-along-step R s ws vs k e = rw e (ap (λ (l : List ℕ). remade_along R s ws l vs) (sym (way-first (level k) k)))
+along_step R s ws vs k e = rw e (ap (λ (l : List ℕ). remade_along R s ws l vs) (sym (way-first (level k) k)))
 
 -- the last relay may lengthen the path above, and the others go on as before
-handed-above : (s : Settings) (members : List Bool) (k : ℕ) → length members ≡ 10 → T (live s k) → 0 < k → Handed s members k → Handed s (set members (last_relay k) true) (above k)
+handed_above : (s : Settings) (members : List Bool) (k : ℕ) → length members ≡ 10 → T (live s k) → 0 < k → Handed s members k → Handed s (set members (last_relay k) true) (above k)
 unfolding lengthens
-handed-above s members k e t p m q g = go (ℕ_discrete q (last_relay k))
+handed_above s members k e t p m q g = go (ℕ_discrete q (last_relay k))
   where
     slot : k < 1111
     slot = live-slot s k t
 
     itself : lengthens s (above k) (last_relay k) ≡ true
-    itself = T-eq _ (below-lengthens s (above k) (last_relay k) (omega arith) (omega (arith, slot)) (subst (λ (j : ℕ). T (live s j)) (sym (below-above k p)) t))
+    itself = T_eq _ (below-lengthens s (above k) (last_relay k) (omega arith) (omega (arith, slot)) (subst (λ (j : ℕ). T (live s j)) (sym (below-above k p)) t))
 
     go : Dec (q ≡ last_relay k) → may (set members (last_relay k) true) q ≡ lengthens s (above k) q
     go (yes r) = rw r (get_or-set_same members (last_relay k) true false (omega arith) ∙ sym itself)
     go (no n) = get_or-set_other members (last_relay k) q true false n ∙ m q g ∙ rw (none-next q k slot p n)
 
 -- and one round more is left
-left-above : (s : Settings) (k : ℕ) → T (live s k) → 0 < k → rounds_left s (level (above k)) ≡ rounds_left s (level k) + 1
-left-above s k t p =
-    let (d, e) = level-pos k (live-slot s k t) p in
+left_above : (s : Settings) (k : ℕ) → T (live s k) → 0 < k → rounds_left s (level (above k)) ≡ rounds_left s (level k) + 1
+left_above s k t p =
+    let (d, e) = level_pos k (live-slot s k t) p in
     let o : s.p ≡ s.t → ⊥ = λ q. omega (arith, live_own s k q t) in
     omega (arith, left_other s (level k) o, left_other s (level (above k)) o, level-above k d (live-slot s k t) e, live-level s k t)
 
@@ -82,9 +82,9 @@ way_at ws k (suc (suc (suc zero))) h = refl
 way_at ws k (suc (suc (suc (suc i)))) h = absurd (omega arith)
 
 -- those of the first slots of a list are those of the list
-pub way-front : (n : ℕ) (l : List ℤ) (k : ℕ) → k < n → way_words (take n l) k ≡ way_words l k
+pub way_front : (n : ℕ) (l : List ℤ) (k : ℕ) → k < n → way_words (take n l) k ≡ way_words l k
 unfolding way_words
-way-front n l k h = rw (first k h, first (above k) (omega arith), first (above (above k)) (omega arith), first (above (above (above k))) (omega arith))
+way_front n l k h = rw (first k h, first (above k) (omega arith), first (above (above k)) (omega arith), first (above (above (above k))) (omega arith))
   where
     first : (j : ℕ) → j < n → at (take n l) j ≡ at l j
     first j g = get_or-take n l j (pos 0) g
@@ -108,38 +108,38 @@ module _ {s : Settings} {vs : List ℤ} {members : List Bool} {slot left d : ℕ
   rounds = e ∙ ap (rounds_left s) g
 
   -- what the re-making at the entered slot is asked
-  pub first-asks : Remakes vs members left d slot
-  first-asks = record {
+  pub first_asks : Remakes vs members left d slot
+  first_asks = record {
     votes_whole = a.votes_whole;
     cards = ap length a.here ∙ length-table 10 0 (lengthens s slot);
     deep = omega (arith, g, a.few, live-level s slot a.alive);
     slot = live-slot s slot a.alive;
-    inner = λ n. left-inner s slot a.few a.alive (λ z. n (rounds ∙ z));
+    inner = λ n. left_inner s slot a.few a.alive (λ z. n (rounds ∙ z));
   }
 
   -- the walk begins with its vote, and with what the slot's path has
-  pub climb-first : {ws : List ℤ} {v w : ℤ} → v ≡ member_remade (rule_of s.rack) w vs members left d slot → w ≡ at ws 0 → Climbs s ws vs slot (set vs slot v) members d slot 0
-  climb-first {v = v} made own = record {
+  pub climb_first : {ws : List ℤ} {v w : ℤ} → v ≡ member_remade (rule_of s.rack) w vs members left d slot → w ≡ at ws 0 → Climbs s ws vs slot (set vs slot v) members d slot 0
+  climb_first {v = v} made own = record {
     few = a.few;
     votes_whole = length-set vs slot v ∙ a.votes_whole;
     alive = a.alive;
-    cards = first-asks.cards;
+    cards = first_asks.cards;
     handed = handed;
     deep = g;
     short = omega (arith, g, a.few, live-level s slot a.alive);
     above_by = refl;
-    same = λ all f. along-step (rule_of s.rack) s all vs slot
+    same = λ all f. along_step (rule_of s.rack) s all vs slot
         (made
         ∙ ap (λ (w : ℤ). member_remade (rule_of s.rack) w vs members left d slot) (own ∙ ap (λ (l : List ℤ). at l 0) f ∙ way_at all slot 0 (omega arith))
-        ∙ remade-handed (rule_of s.rack) s all vs members left d slot a.few a.alive handed rounds g);
+        ∙ remade_handed (rule_of s.rack) s all vs members left d slot a.few a.alive handed rounds g);
   }
     where
       handed : Handed s members slot
-      handed = rw a.here (handed-table s slot)
+      handed = rw a.here (handed_table s slot)
 
 module _ {s : Settings} {ws vs₀ : List ℤ} {slot : ℕ} {vs : List ℤ} {members : List Bool} {d k i : ℕ} (c : Climbs s ws vs₀ slot vs members d k i) where
-  pub climb-level : 0 < k → 0 < d
-  climb-level p = let (e, f) = level-pos k (live-slot s k c.alive) p in omega (arith, c.deep)
+  pub climb_level : 0 < k → 0 < d
+  climb_level p = let (e, f) = level_pos k (live-slot s k c.alive) p in omega (arith, c.deep)
 
   -- one step up: the vote there is decided from its word and the held votes
   module _ (p : 0 < k) {q j : ℕ} (last : q ≡ last_relay k) (next : j ≡ above k) where
@@ -147,44 +147,44 @@ module _ {s : Settings} {ws vs₀ : List ℤ} {slot : ℕ} {vs : List ℤ} {memb
     members' = set members (last_relay k) true
 
     -- what is asked of the votes and cards
-    pub climb-asks : (length vs ≡ slots) × (length (set members q true) ≡ 10) × (j < 111)
-    climb-asks = (c.votes_whole, length-set members q true ∙ c.cards, omega (arith, next, live-slot s k c.alive))
+    pub climb_asks : (length vs ≡ slots) × (length (set members q true) ≡ 10) × (j < 111)
+    climb_asks = (c.votes_whole, length-set members q true ∙ c.cards, omega (arith, next, live-slot s k c.alive))
 
-    level-up : d - 1 ≡ level (above k)
-    level-up = let (f, g) = level-pos k (live-slot s k c.alive) p in omega (arith, c.deep, level-above k f (live-slot s k c.alive) g)
+    level_up : d - 1 ≡ level (above k)
+    level_up = let (f, g) = level_pos k (live-slot s k c.alive) p in omega (arith, c.deep, level-above k f (live-slot s k c.alive) g)
 
-    handed-up : Handed s members' (above k)
-    handed-up = handed-above s members k c.cards c.alive p c.handed
+    handed_up : Handed s members' (above k)
+    handed_up = handed_above s members k c.cards c.alive p c.handed
 
-    above-up : above k ≡ up (i + 1) slot
-    above-up = ap above c.above_by ∙ ap (λ (j : ℕ). up j slot) (sym (add-one i))
+    above_up : above k ≡ up (i + 1) slot
+    above_up = ap above c.above_by ∙ ap (λ (j : ℕ). up j slot) (sym (add-one i))
 
     -- the vote there is the one made again
     gives : {v own w : ℤ} → v ≡ decided (rule_of s.rack) own (held_votes (rule_of s.rack) vs members' (d - 1 + 1) (above k) 10) → own ≡ (rule_of s.rack).read (d - 1) w → w ≡ at ws (i + 1) → (all : List ℤ) → ws ≡ way_words all slot → v ≡ remade (rule_of s.rack) s all vs (above k)
     gives {w = w} e read f all g =
         let R = rule_of s.rack in
         let left = rounds_left s (level (above k)) in
-        let word = f ∙ ap (λ (l : List ℤ). at l (i + 1)) g ∙ way_at all slot (i + 1) (omega (arith, c.short, climb-level p)) ∙ ap (at all) (sym above-up) in
+        let word = f ∙ ap (λ (l : List ℤ). at l (i + 1)) g ∙ way_at all slot (i + 1) (omega (arith, c.short, climb_level p)) ∙ ap (at all) (sym above_up) in
         e
         ∙ ap (λ (own : ℤ). decided R own (held_votes R vs members' (d - 1 + 1) (above k) 10)) read
-        ∙ sym (made_more R w vs members' left (d - 1) (above k) (λ z. omega (arith, z, left-above s k c.alive p)))
+        ∙ sym (made_more R w vs members' left (d - 1) (above k) (λ z. omega (arith, z, left_above s k c.alive p)))
         ∙ ap (λ (w : ℤ). member_remade R w vs members' left (d - 1) (above k)) word
-        ∙ remade-handed R s all vs members' left (d - 1) (above k) c.few (up-live s k c.alive p) handed-up refl level-up
+        ∙ remade_handed R s all vs members' left (d - 1) (above k) c.few (up_live s k c.alive p) handed_up refl level_up
 
-    pub climb-more : {v own w : ℤ} → v ≡ decided (rule_of s.rack) own (held_votes (rule_of s.rack) vs (set members q true) (d - 1 + 1) j 10) → own ≡ (rule_of s.rack).read (d - 1) w → w ≡ at ws (i + 1) → Climbs s ws vs₀ slot (set vs j v) (set members q true) (d - 1) j (i + 1)
-    climb-more {v} e read f = rw (last, next) (record {
+    pub climb_more : {v own w : ℤ} → v ≡ decided (rule_of s.rack) own (held_votes (rule_of s.rack) vs (set members q true) (d - 1 + 1) j 10) → own ≡ (rule_of s.rack).read (d - 1) w → w ≡ at ws (i + 1) → Climbs s ws vs₀ slot (set vs j v) (set members q true) (d - 1) j (i + 1)
+    climb_more {v} e read f = rw (last, next) (record {
       few = c.few;
       votes_whole = length-set vs (above k) v ∙ c.votes_whole;
-      alive = up-live s k c.alive p;
+      alive = up_live s k c.alive p;
       cards = length-set members (last_relay k) true ∙ c.cards;
-      handed = handed-up;
-      deep = level-up;
-      short = omega (arith, c.short, climb-level p);
-      above_by = above-up;
-      same = λ all g. along-step (rule_of s.rack) s all vs (above k) (gives (rw (last, next) at e) read f all g) ∙ ap (λ (l : List ℕ). remade_along (rule_of s.rack) s all (drop 1 l) vs) (sym (way-cons k (live-slot s k c.alive) p)) ∙ c.same all g;
+      handed = handed_up;
+      deep = level_up;
+      short = omega (arith, c.short, climb_level p);
+      above_by = above_up;
+      same = λ all g. along_step (rule_of s.rack) s all vs (above k) (gives (rw (last, next) at e) read f all g) ∙ ap (λ (l : List ℕ). remade_along (rule_of s.rack) s all (drop 1 l) vs) (sym (way_cons k (live-slot s k c.alive) p)) ∙ c.same all g;
     })
 
   -- at slot 0 nothing is left to re-make
-  pub climb-done : k ≤ 0 → (all : List ℤ) → ws ≡ way_words all slot → vs ≡ remade_along (rule_of s.rack) s all (way slot) vs₀
+  pub climb_done : k ≤ 0 → (all : List ℤ) → ws ≡ way_words all slot → vs ≡ remade_along (rule_of s.rack) s all (way slot) vs₀
   unfolding remade_along way_by level
-  climb-done h all g = let z : k ≡ 0 = omega arith in rw z at (c.same all g)
+  climb_done h all g = let z : k ≡ 0 = omega arith in rw z at (c.same all g)

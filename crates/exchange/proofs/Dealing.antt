@@ -14,8 +14,8 @@ use Rattle.words.specs.Word.{E}
 use Rattle.words.specs.Rule.{Rule}
 use Rattle.settings.specs.Settings.{slots}
 use Rattle.paths.specs.Slots.{below, above, last_relay, level, live}
-use Rattle.paths.proofs.Levels.{level-pos, level-above, above-below, last_relay-below}
-use Rattle.paths.proofs.Live.{live-slot, live-zero}
+use Rattle.paths.proofs.Levels.{level_pos, level-above, above-below, last_relay-below}
+use Rattle.paths.proofs.Live.{live-slot, live_zero}
 use Rattle.vote.specs.Vote.{vote}
 use Rattle.vote.proofs.Votes.{vote-live}
 use Rattle.exchange.specs.Exchange.{Exchange, Status, status_of, settings_for, sent, dealt_at, dealt, received, answer_of}
@@ -24,20 +24,20 @@ use Rattle.exchange.specs.Sending.{Sends}
 -- ---- by the status byte
 
 module _ (s : ℕ) (word own first : ℤ) where
-  pub sent-good : s ≡ 0 → word ≡ sent (status_of s) word own first
+  pub sent_good : s ≡ 0 → word ≡ sent (status_of s) word own first
   unfolding status_of sent
-  sent-good e = rw e
+  sent_good e = rw e
 
-  pub sent-arbitrary : s ≡ 1 → own ≡ sent (status_of s) word own first
+  pub sent_arbitrary : s ≡ 1 → own ≡ sent (status_of s) word own first
   unfolding status_of sent
-  sent-arbitrary e = rw e
+  sent_arbitrary e = rw e
 
-  pub sent-symmetric : s ≡ 2 → first ≡ sent (status_of s) word own first
+  pub sent_symmetric : s ≡ 2 → first ≡ sent (status_of s) word own first
   unfolding status_of sent
-  sent-symmetric e = rw e
+  sent_symmetric e = rw e
 
-  pub sent-manifest : (s ≡ 0 → ⊥) → (s ≡ 1 → ⊥) → (s ≡ 2 → ⊥) → E ≡ sent (status_of s) word own first
-  sent-manifest a b c = go s a b c
+  pub sent_manifest : (s ≡ 0 → ⊥) → (s ≡ 1 → ⊥) → (s ≡ 2 → ⊥) → E ≡ sent (status_of s) word own first
+  sent_manifest a b c = go s a b c
     where
       go : (s : ℕ) → (s ≡ 0 → ⊥) → (s ≡ 1 → ⊥) → (s ≡ 2 → ⊥) → E ≡ sent (status_of s) word own first
       go zero a b c = absurd (a refl)
@@ -45,8 +45,8 @@ module _ (s : ℕ) (word own first : ℤ) where
       go (suc (suc zero)) a b c = absurd (c refl)
       go (suc (suc (suc s))) a b c = unfold status_of sent in refl
 
-pub sent-as : (s : ℕ) {v w own own' first first' : ℤ} → v ≡ w → own ≡ own' → first ≡ first' → sent (status_of s) v own first ≡ sent (status_of s) w own' first'
-sent-as s e f g = rw (e, f, g)
+pub sent_as : (s : ℕ) {v w own own' first first' : ℤ} → v ≡ w → own ≡ own' → first ≡ first' → sent (status_of s) v own first ≡ sent (status_of s) w own' first'
+sent_as s e f g = rw (e, f, g)
 
 -- receiver 0's word
 pub at_first : (words : List ℤ) (k : ℕ) → at words (10 * k) ≡ at words (10 * k + 0)
@@ -64,7 +64,7 @@ module _ (R : Rule) (X : Exchange) (k p : ℕ) {word r : ℤ} where
   pub dealt-next : 0 < k → k < 1111 → word ≡ R.wrap (R.read (level (above k)) (dealt R X (above k) (last_relay k))) → r ≡ sent (X.status (last_relay k)) word (X.tabled k p) (X.tabled k 0) → r ≡ dealt R X k p
   unfolding dealt_at
   dealt-next a b w h =
-      let (d, e) = level-pos k b a in
+      let (d, e) = level_pos k b a in
       let f : level (above k) ≡ d = level-above k d b e in
       h ∙ rw (w, e, f)
 
@@ -74,13 +74,13 @@ dealt-below R X k q h g p = sym (dealt-next R X (below k q) p (omega arith) (ome
 
 module _ (R : Rule) (X : Exchange) where
   -- on the path at slot 0 the sender sends,
-  pub sends-first : Sends R X 0 (X.status X.sender) X.value
+  pub sends_first : Sends R X 0 (X.status X.sender) X.value
   unfolding dealt_at level
-  sends-first q = refl
+  sends_first q = refl
 
   -- and on a longer one its last relay
-  pub sends-below : (d k q : ℕ) (status : Status) (word : ℤ) {relayed : ℤ} → k < 111 → level k ≡ d → q < 10 → relayed ≡ R.wrap (R.read d (sent status word (X.tabled k q) (X.tabled k 0))) → Sends R X k status word → Sends R X (below k q) (X.status q) relayed
-  sends-below d k q status word h l g e s p = rw (e, ← l, s q) (sym (dealt-below R X k q h g p))
+  pub sends_below : (d k q : ℕ) (status : Status) (word : ℤ) {relayed : ℤ} → k < 111 → level k ≡ d → q < 10 → relayed ≡ R.wrap (R.read d (sent status word (X.tabled k q) (X.tabled k 0))) → Sends R X k status word → Sends R X (below k q) (X.status q) relayed
+  sends_below d k q status word h l g e s p = rw (e, ← l, s q) (sym (dealt-below R X k q h g p))
 
 -- all but an arbitrary card send one word to all
 pub sent-all : (status : ℕ) (word own other first : ℤ) → (status ≡ 1 → ⊥) → sent (status_of status) word own first ≡ sent (status_of status) word other first
@@ -91,16 +91,16 @@ sent-all (suc (suc zero)) word own other first n = refl
 sent-all (suc (suc (suc k))) word own other first n = refl
 
 -- only a good card's word is looked at
-pub only-good : (status : ℕ) (word other own first : ℤ) → (status ≡ 0 → word ≡ other) → sent (status_of status) word own first ≡ sent (status_of status) other own first
+pub only_good : (status : ℕ) (word other own first : ℤ) → (status ≡ 0 → word ≡ other) → sent (status_of status) word own first ≡ sent (status_of status) other own first
 unfolding status_of sent
-only-good zero word other own first e = e refl
-only-good (suc zero) word other own first e = refl
-only-good (suc (suc zero)) word other own first e = refl
-only-good (suc (suc (suc k))) word other own first e = refl
+only_good zero word other own first e = e refl
+only_good (suc zero) word other own first e = refl
+only_good (suc (suc zero)) word other own first e = refl
+only_good (suc (suc (suc k))) word other own first e = refl
 
 -- what a good relay sends on of what it received, told what it would be of another card's word
-pub on-good : (R : Rule) (d status by : ℕ) (word own other first told : ℤ) → told ≡ R.wrap (R.read d (sent (status_of status) word other first)) → by ≡ 0 → cond (eqb status 1 && eqb by 0) (R.wrap (R.read d (sent (status_of status) word own first))) told ≡ R.wrap (R.read d (sent (status_of status) word own first))
-on-good R d status by word own other first told e z = rw z (go (ℕ_discrete status 1))
+pub on_good : (R : Rule) (d status by : ℕ) (word own other first told : ℤ) → told ≡ R.wrap (R.read d (sent (status_of status) word other first)) → by ≡ 0 → cond (eqb status 1 && eqb by 0) (R.wrap (R.read d (sent (status_of status) word own first))) told ≡ R.wrap (R.read d (sent (status_of status) word own first))
+on_good R d status by word own other first told e z = rw z (go (ℕ_discrete status 1))
   where
     go : Dec (status ≡ 1) → cond (eqb status 1 && true) (R.wrap (R.read d (sent (status_of status) word own first))) told ≡ R.wrap (R.read d (sent (status_of status) word own first))
     go (yes s) = rw (eq-eqb status 1 s)
@@ -115,8 +115,8 @@ module _ (R : Rule) (X : Exchange) (p : ℕ) where
   at-received k h = let e : 0 + k ≡ k = omega arith in at_table slots 0 _ k (pos 0) h ∙ ap (λ (j : ℕ). dealt R X j p) e
 
   -- from a list that holds the words dealt at p's live slots comes p's answer
-  pub answer-from : (words : List ℤ) → ((k : ℕ) → T (live (settings_for X p) k) → at words k ≡ dealt R X k p) → vote R (settings_for X p) words 0 ≡ answer_of R X p
+  pub answer_from : (words : List ℤ) → ((k : ℕ) → T (live (settings_for X p) k) → at words k ≡ dealt R X k p) → vote R (settings_for X p) words 0 ≡ answer_of R X p
   unfolding answer_of
-  answer-from words h =
+  answer_from words h =
       vote-live R (settings_for X p) words (received R X p)
-      (λ k t. h k t ∙ sym (at-received k (live-slot (settings_for X p) k t))) 0 (live-zero (settings_for X p))
+      (λ k t. h k t ∙ sym (at-received k (live-slot (settings_for X p) k t))) 0 (live_zero (settings_for X p))

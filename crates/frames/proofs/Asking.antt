@@ -7,7 +7,7 @@ use lib.ListN.{length}
 use borrow.Author.Tests.{eq-eqb, ne_eqb, eqb-true, not-false}
 use Rattle.ground.specs.Checks.{verdict}
 use Rattle.ground.specs.Bytes.{starts, be16}
-use Rattle.ground.proofs.Verdicts.{no-verdict}
+use Rattle.ground.proofs.Verdicts.{no_verdict}
 use Rattle.frames.specs.Frame.{mark, version, frame_of, well_formed}
 use Rattle.frames.specs.Asked.{read_checks}
 
@@ -18,14 +18,14 @@ module _ (l : List ℕ) where
   by_size n = rw (ne_eqb _ 17 n)
 
   module _ (a : length l ≡ 17) {m : Bool} (e : m ≡ starts l mark) where
-    pub by-mark : not m ≡ true → 10 ≡ verdict (read_checks l)
+    pub by_mark : not m ≡ true → 10 ≡ verdict (read_checks l)
     unfolding verdict
-    by-mark t = rw (eq-eqb _ 17 a, ← e, t)
+    by_mark t = rw (eq-eqb _ 17 a, ← e, t)
 
     module _ (b : not m ≡ false) {v : ℕ} (q : v ≡ be16 l 3) where
-      pub by-version : (v ≡ version → ⊥) → 11 ≡ verdict (read_checks l)
+      pub by_version : (v ≡ version → ⊥) → 11 ≡ verdict (read_checks l)
       unfolding verdict
-      by-version n = rw (eq-eqb _ 17 a, ← e, b, ← q, ne_eqb _ version n)
+      by_version n = rw (eq-eqb _ 17 a, ← e, b, ← q, ne_eqb _ version n)
 
       module _ (c : v ≡ version) {f : Bool} (w : f ≡ well_formed (frame_of l)) where
         pub by_form : not f ≡ true → 14 ≡ verdict (read_checks l)
@@ -43,9 +43,9 @@ pub record Passed (l : List ℕ) : Type 0 where
   pub versioned : be16 l 3 ≡ version
   pub formed : well_formed (frame_of l) ≡ true
 
-pub passed-all : (l : List ℕ) → verdict (read_checks l) ≡ 0 → Passed l
-passed-all l e =
-    let none = no-verdict (read_checks l) tt e in
+pub passed_all : (l : List ℕ) → verdict (read_checks l) ≡ 0 → Passed l
+passed_all l e =
+    let none = no_verdict (read_checks l) tt e in
     record {
       size = eqb-true _ _ (not-false _ none.0);
       marked = not-false _ none.1.0;

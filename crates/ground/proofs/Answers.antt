@@ -36,9 +36,9 @@ module _ {L : Type 0} {no v : ℕ} (e : no ≡ v) where
   unfolding outcome_by
   outcome-refused n before made = rw (← (answer-refused e n (tt {0})), ← (after-refused n before made))
 
-  pub outcome-done : no ≡ 0 → (before : L) {left made : L} → left ≡ made → outcome (value tt) left ≡ outcome_by v before made
+  pub outcome_done : no ≡ 0 → (before : L) {left made : L} → left ≡ made → outcome (value tt) left ≡ outcome_by v before made
   unfolding outcome_by answer after
-  outcome-done z before {left} {made} h = ap (outcome (value tt)) h ∙ ap (λ (v : ℕ). outcome_by v before made) (sym z ∙ e)
+  outcome_done z before {left} {made} h = ap (outcome (value tt)) h ∙ ap (λ (v : ℕ). outcome_by v before made) (sym z ∙ e)
 
 -- ---- back to the verdict
 
@@ -60,20 +60,20 @@ refused-leaves v before made n = sym (after-refused refl n before made)
 
 -- ---- the code's answers: each tells what it was made of
 
-pub told-apart : (x y : Told) → of_told x ≡ of_told y → x ≡ y
-told-apart (told.Word w) (told.Word v) e = ap told.Word (cc e)
-told-apart (told.Word w) (told.Refused k) e = let z : ◌≡◌ {A = ℕ} 0 1 = cc e in absurd (omega arith)
-told-apart (told.Refused k) (told.Word w) e = let z : ◌≡◌ {A = ℕ} 0 1 = cc e in absurd (omega arith)
-told-apart (told.Refused k) (told.Refused j) e = ap told.Refused (cc e)
+pub told_apart : (x y : Told) → of_told x ≡ of_told y → x ≡ y
+told_apart (told.Word w) (told.Word v) e = ap told.Word (cc e)
+told_apart (told.Word w) (told.Refused k) e = let z : ◌≡◌ {A = ℕ} 0 1 = cc e in absurd (omega arith)
+told_apart (told.Refused k) (told.Word w) e = let z : ◌≡◌ {A = ℕ} 0 1 = cc e in absurd (omega arith)
+told_apart (told.Refused k) (told.Refused j) e = ap told.Refused (cc e)
 
-done-apart : (x y : Done) → of_done x ≡ of_done y → x ≡ y
-done-apart done.Done done.Done e = refl
-done-apart done.Done (done.Refused k) e = let z : ◌≡◌ {A = ℕ} 0 1 = cc e in absurd (omega arith)
-done-apart (done.Refused k) done.Done e = let z : ◌≡◌ {A = ℕ} 0 1 = cc e in absurd (omega arith)
-done-apart (done.Refused k) (done.Refused j) e = ap done.Refused (cc e)
+done_apart : (x y : Done) → of_done x ≡ of_done y → x ≡ y
+done_apart done.Done done.Done e = refl
+done_apart done.Done (done.Refused k) e = let z : ◌≡◌ {A = ℕ} 0 1 = cc e in absurd (omega arith)
+done_apart (done.Refused k) done.Done e = let z : ◌≡◌ {A = ℕ} 0 1 = cc e in absurd (omega arith)
+done_apart (done.Refused k) (done.Refused j) e = ap done.Refused (cc e)
 
-pub outcome-apart : {L : Type 0} (x y : Done) {l m : L} → outcome (of_done x) l ≡ outcome (of_done y) m → outcome x l ≡ outcome y m
-outcome-apart {L} x y e =
-    let a = done-apart x y (ap (λ (o : Outcome (Answer (Unit {0})) L). o.yields) e) in
+pub outcome_apart : {L : Type 0} (x y : Done) {l m : L} → outcome (of_done x) l ≡ outcome (of_done y) m → outcome x l ≡ outcome y m
+outcome_apart {L} x y e =
+    let a = done_apart x y (ap (λ (o : Outcome (Answer (Unit {0})) L). o.yields) e) in
     let b = ap (λ (o : Outcome (Answer (Unit {0})) L). o.leaves) e in
     λ i. outcome (a i) (b i)

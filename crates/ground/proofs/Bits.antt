@@ -15,8 +15,8 @@ module _ {x : ℤ} (f : SFits w32 x) where
   pub back_is : back x ≡ x
   back_is = to_z-of_z w32 x f
 
-  pub bits-eq : {y : ℤ} → SFits w32 y → of_z w32 x ≡ of_z w32 y → x ≡ y
-  bits-eq {y} g e = sym back_is ∙ ap (to_z w32) e ∙ to_z-of_z w32 y g
+  pub bits_eq : {y : ℤ} → SFits w32 y → of_z w32 x ≡ of_z w32 y → x ≡ y
+  bits_eq {y} g e = sym back_is ∙ ap (to_z w32) e ∙ to_z-of_z w32 y g
 
-  pub lt-told : (y : ℤ) {b : Bool} → lt_z (back x) y ≡ b → lt_z x y ≡ b
-  lt-told y e = rw back_is at e
+  pub lt_told : (y : ℤ) {b : Bool} → lt_z (back x) y ≡ b → lt_z x y ≡ b
+  lt_told y e = rw back_is at e

@@ -6,9 +6,9 @@ use native.Mathlib.Omega.{arith}
 use lib.Dec.{T, ltb, ltb→lt, not_T}
 use borrow.Author.Tests.{not-false}
 
-pub T-eq : (b : Bool) → T b → b ≡ true
-T-eq true t = refl
-T-eq false t = absurd t
+pub T_eq : (b : Bool) → T b → b ≡ true
+T_eq true t = refl
+T_eq false t = absurd t
 
 -- a test whose contrary does not hold
 pub holds : (b : Bool) → not b ≡ false → T b
@@ -39,19 +39,19 @@ or_right true b t = tt
 or_right false b t = t
 
 -- the first of two tests holds where one of them does and the second does not, and the other way round
-pub or-drop : (a b : Bool) → T (a || b) → (T a → ⊥) → T b
-or-drop true b t h = absurd (h tt)
-or-drop false b t h = t
+pub or_drop : (a b : Bool) → T (a || b) → (T a → ⊥) → T b
+or_drop true b t h = absurd (h tt)
+or_drop false b t h = t
 
 pub le→nltb : (m n : ℕ) → n ≤ m → T (not (ltb m n))
 le→nltb m n h = not_T (ltb m n) (λ t. let l : m < n = ltb→lt m n t in omega arith)
 
 -- two tests that hold together are equal
-pub iff-eq : (a b : Bool) → (T a → T b) → (T b → T a) → a ≡ b
-iff-eq true true f g = refl
-iff-eq true false f g = absurd (f tt)
-iff-eq false true f g = absurd (g tt)
-iff-eq false false f g = refl
+pub iff_eq : (a b : Bool) → (T a → T b) → (T b → T a) → a ≡ b
+iff_eq true true f g = refl
+iff_eq true false f g = absurd (f tt)
+iff_eq false true f g = absurd (g tt)
+iff_eq false false f g = refl
 
 -- what holds of both, each where it is chosen, holds of the choice
 pub cond-case : {A : Type 0} (P : A → Type 0) (b : Bool) (x y : A) → (T b → P x) → (T (not b) → P y) → P (cond b x y)
@@ -65,8 +65,8 @@ cond_same false x y u v f g = g tt
 
 -- what a test that is known chooses
 module _ {A : Type 0} {b : Bool} (x y : A) where
-  pub chosen-yes : b ≡ true → x ≡ cond b x y
-  chosen-yes e = rw e
+  pub chosen_yes : b ≡ true → x ≡ cond b x y
+  chosen_yes e = rw e
 
-  pub chosen-no : b ≡ false → y ≡ cond b x y
-  chosen-no e = rw e
+  pub chosen_no : b ≡ false → y ≡ cond b x y
+  chosen_no e = rw e

@@ -34,8 +34,8 @@ at_table (suc n) s f zero d h = ap f (omega arith)
 at_table (suc n) s f (suc i) d h = at_table n (suc s) f i d (omega arith) ∙ ap f (omega arith)
 
 -- a list that holds f at each of its n places is the table
-pub is-table : {A : Type 0} (n : ℕ) (f : ℕ → A) (d : A) (l : List A) → length l ≡ n → ((i : ℕ) → i < n → get_or l i d ≡ f i) → l ≡ table n 0 f
-is-table n f d l e h =
+pub is_table : {A : Type 0} (n : ℕ) (f : ℕ → A) (d : A) (l : List A) → length l ≡ n → ((i : ℕ) → i < n → get_or l i d ≡ f i) → l ≡ table n 0 f
+is_table n f d l e h =
     ext_get_or d l (table n 0 f) (e ∙ sym (length-table n 0 f))
     (λ i g. h i (omega arith) ∙ sym (at_table n 0 f i d (omega arith) ∙ ap f (omega arith)))
 
@@ -61,16 +61,16 @@ passed_none f l e = record { upto = omega arith; long = e; done = λ j h. absurd
 
 module _ {n : ℕ} {f : ℕ → ℤ} {before : List ℤ} {k : ℕ} {l : List ℤ} (r : Passed n f before k l) where
   module _ (h : k < n) {after : List ℤ} where
-    pub passed-set : {v : ℤ} → v ≡ f k → after ≡ set l k v → Passed n f before (k + 1) after
-    passed-set {v} e a = rw a (record {
+    pub passed_set : {v : ℤ} → v ≡ f k → after ≡ set l k v → Passed n f before (k + 1) after
+    passed_set {v} e a = rw a (record {
       upto = omega arith;
       long = length-set l k v ∙ r.long;
       done = set_next f l k v (pos 0) (omega (arith, r.long)) r.done e;
       rest = λ j g. get_or-set_other l k j v (pos 0) (λ q. omega arith) ∙ r.rest j (omega arith);
     })
 
-    pub passed-same : at before k ≡ f k → after ≡ l → Passed n f before (k + 1) after
-    passed-same e a = rw a (record {
+    pub passed_same : at before k ≡ f k → after ≡ l → Passed n f before (k + 1) after
+    passed_same e a = rw a (record {
       upto = omega arith;
       long = r.long;
       done = below_more (λ j. at l j ≡ f j) k r.done (r.rest k (omega arith) ∙ e);
@@ -78,8 +78,8 @@ module _ {n : ℕ} {f : ℕ → ℤ} {before : List ℤ} {k : ℕ} {l : List ℤ
     })
 
   -- where f changes no place from k on, the list is f's table
-  pub passed-all : ((j : ℕ) → k ≤ j → j < n → at before j ≡ f j) → l ≡ table n 0 f
-  passed-all same = is-table n f (pos 0) l r.long (λ j h. go j h (ltb j k) refl)
+  pub passed_all : ((j : ℕ) → k ≤ j → j < n → at before j ≡ f j) → l ≡ table n 0 f
+  passed_all same = is_table n f (pos 0) l r.long (λ j h. go j h (ltb j k) refl)
     where
       go : (j : ℕ) → j < n → (b : Bool) → ltb j k ≡ b → at l j ≡ f j
       go j h true e = r.done j (ltb-true j k e)
@@ -113,21 +113,21 @@ module _ (passes : ℕ → Bool) where
       cond-case (All P) (passes q) _ _ (λ t. (h q (omega arith) (omega arith) t, ih)) (λ t. ih)
 
 -- two tests and two functions that are equal where they matter
-pub over-cong : (p p' : ℕ → Bool) (f f' : ℕ → ℤ) (c s : ℕ) → ((q : ℕ) → q < s + c → p q ≡ p' q) → ((q : ℕ) → q < s + c → T (p q) → f q ≡ f' q) → over p f c s ≡ over p' f' c s
+pub over_cong : (p p' : ℕ → Bool) (f f' : ℕ → ℤ) (c s : ℕ) → ((q : ℕ) → q < s + c → p q ≡ p' q) → ((q : ℕ) → q < s + c → T (p q) → f q ≡ f' q) → over p f c s ≡ over p' f' c s
 unfolding over
-over-cong p p' f f' zero s g h = refl
-over-cong p p' f f' (suc c) s g h =
-    rw (← (g s (omega arith))) (go (p s) (h s (omega arith)) (over-cong p p' f f' c (suc s) (λ q l. g q (omega arith)) (λ q l. h q (omega arith))))
+over_cong p p' f f' zero s g h = refl
+over_cong p p' f f' (suc c) s g h =
+    rw (← (g s (omega arith))) (go (p s) (h s (omega arith)) (over_cong p p' f f' c (suc s) (λ q l. g q (omega arith)) (λ q l. h q (omega arith))))
   where
     go : (b : Bool) → (T b → f s ≡ f' s) → over p f c (suc s) ≡ over p' f' c (suc s) → cond b (f s ∷ over p f c (suc s)) (over p f c (suc s)) ≡ cond b (f' s ∷ over p' f' c (suc s)) (over p' f' c (suc s))
     go true e ih = ap₂ (λ (w : ℤ) (l : List ℤ). w ∷ l) (e tt) ih
     go false e ih = ih
 
 -- the card after c cards from q on
-pub over-snoc : (p : ℕ → Bool) (f : ℕ → ℤ) (c q : ℕ) → over p f (suc c) q ≡ over p f c q ++ cond (p (q + c)) (f (q + c) ∷ []) []
+pub over_snoc : (p : ℕ → Bool) (f : ℕ → ℤ) (c q : ℕ) → over p f (suc c) q ≡ over p f c q ++ cond (p (q + c)) (f (q + c) ∷ []) []
 unfolding over
-over-snoc p f zero q = let e : q + 0 ≡ q = omega arith in rw e
-over-snoc p f (suc c) q = go (p q) _ (over-snoc p f c (suc q) ∙ ap (λ (x : ℕ). over p f c (suc q) ++ cond (p x) (f x ∷ []) []) (omega arith))
+over_snoc p f zero q = let e : q + 0 ≡ q = omega arith in rw e
+over_snoc p f (suc c) q = go (p q) _ (over_snoc p f c (suc q) ∙ ap (λ (x : ℕ). over p f c (suc q) ++ cond (p x) (f x ∷ []) []) (omega arith))
   where
     go : (b : Bool) (l : List ℤ) → over p f (suc c) (suc q) ≡ over p f c (suc q) ++ l → cond b (f q ∷ over p f (suc c) (suc q)) (over p f (suc c) (suc q)) ≡ cond b (f q ∷ over p f c (suc q)) (over p f c (suc q)) ++ l
     go true l e = ap (λ (r : List ℤ). f q ∷ r) e
@@ -153,12 +153,12 @@ module _ (f : ℕ → Bool) where
 -- ---- counting, one card after another
 
 module _ (f : ℕ → Bool) where
-  count-snoc : (c q : ℕ) → count f (suc c) q ≡ cond (f (q + c)) (suc (count f c q)) (count f c q)
+  count_snoc : (c q : ℕ) → count f (suc c) q ≡ cond (f (q + c)) (suc (count f c q)) (count f c q)
   unfolding count
-  count-snoc zero q = let e : q + 0 ≡ q = omega arith in rw e
-  count-snoc (suc c) q =
+  count_snoc zero q = let e : q + 0 ≡ q = omega arith in rw e
+  count_snoc (suc c) q =
       let e : suc q + c ≡ q + suc c = omega arith in
-      go (f q) (f (q + suc c)) (count-snoc c (suc q) ∙ ap (λ (x : ℕ). cond (f x) (suc (count f c (suc q))) (count f c (suc q))) e)
+      go (f q) (f (q + suc c)) (count_snoc c (suc q) ∙ ap (λ (x : ℕ). cond (f x) (suc (count f c (suc q))) (count f c (suc q))) e)
     where
       go : (a b : Bool) → count f (suc c) (suc q) ≡ cond b (suc (count f c (suc q))) (count f c (suc q)) → cond a (suc (count f (suc c) (suc q))) (count f (suc c) (suc q)) ≡ cond b (suc (cond a (suc (count f c (suc q))) (count f c (suc q)))) (cond a (suc (count f c (suc q))) (count f c (suc q)))
       go true true e = ap suc e
@@ -172,10 +172,10 @@ module _ (f : ℕ → Bool) where
 
   -- one more card, that passes or does not
   pub count_yes : (q : ℕ) → f q ≡ true → count f (q + 1) 0 ≡ count f q 0 + 1
-  count_yes q e = let z : 0 + q ≡ q = omega arith in rw (add-one q) (count-snoc q 0 ∙ rw (z, e) (sym (add-one (count f q 0))))
+  count_yes q e = let z : 0 + q ≡ q = omega arith in rw (add-one q) (count_snoc q 0 ∙ rw (z, e) (sym (add-one (count f q 0))))
 
   pub count_no : (q : ℕ) → f q ≡ false → count f (q + 1) 0 ≡ count f q 0
-  count_no q e = let z : 0 + q ≡ q = omega arith in rw (add-one q) (count-snoc q 0 ∙ rw (z, e))
+  count_no q e = let z : 0 + q ≡ q = omega arith in rw (add-one q) (count_snoc q 0 ∙ rw (z, e))
 
   count-few : (c q : ℕ) → count f c q ≤ c
   unfolding count
@@ -186,8 +186,8 @@ module _ (f : ℕ → Bool) where
       go true h = omega arith
       go false h = omega arith
 
-pub counted-few : (f : ℕ → Bool) (n : ℕ) {r : ℕ} → r ≡ count f n 0 → r ≤ n
-counted-few f n e = omega (arith, count-few f n 0)
+pub counted_few : (f : ℕ → Bool) (n : ℕ) {r : ℕ} → r ≡ count f n 0 → r ≤ n
+counted_few f n e = omega (arith, count-few f n 0)
 
 -- f says what g does of the n cards from q on, and no card after them passes f
 pub count-first : (f g : ℕ → Bool) (c n q : ℕ) → n ≤ c → ((x : ℕ) → q ≤ x → x < q + n → f x ≡ g x) → ((x : ℕ) → q + n ≤ x → f x ≡ false) → count f c q ≡ count g n q

@@ -16,23 +16,23 @@ module _ (l : List ℕ) (k : ℕ) where
     past : (j : ℕ) → k ≤ j → byte l j ≡ 0
     past j g = get_or-eq_default l 0 (omega arith)
 
-    pub be16-past : 0 ≡ be16 l k
+    pub be16_past : 0 ≡ be16 l k
     unfolding be16
-    be16-past = omega (arith, past k (omega arith), past (k + 1) (omega arith))
+    be16_past = omega (arith, past k (omega arith), past (k + 1) (omega arith))
 
-    pub be32-past : 0 ≡ be32 l k
+    pub be32_past : 0 ≡ be32 l k
     unfolding be32 be16
-    be32-past = omega (arith, past k (omega arith), past (k + 1) (omega arith), past (k + 2) (omega arith), past (k + 2 + 1) (omega arith))
+    be32_past = omega (arith, past k (omega arith), past (k + 1) (omega arith), past (k + 2) (omega arith), past (k + 2 + 1) (omega arith))
 
   -- the rest of the list from place k on, as a part of a slice has it
   abbrev rest : List ℕ
   rest = take (length l - k) (drop k l)
 
-  rest-is : rest ≡ drop k l
-  rest-is = take_all (length l - k) (drop k l) (omega (arith, length-drop k l))
+  rest_is : rest ≡ drop k l
+  rest_is = take_all (length l - k) (drop k l) (omega (arith, length-drop k l))
 
   at_rest : (i j : ℕ) → k + i ≡ j → byte rest i ≡ byte l j
-  at_rest i j e = ap (λ (r : List ℕ). byte r i) rest-is ∙ get_or-drop k l i 0 ∙ ap (byte l) e
+  at_rest i j e = ap (λ (r : List ℕ). byte r i) rest_is ∙ get_or-drop k l i 0 ∙ ap (byte l) e
 
   pub be32-rest : (a b : ℕ) → a ≡ be16 rest 0 → b ≡ be16 rest 2 → 65536 * a + b ≡ be32 l k
   unfolding be32 be16
@@ -54,21 +54,21 @@ module _ (l : List ℕ) (b : AllBytes l) (k : ℕ) where
       let q : be16 l k % 256 ≡ byte l (k + 1) = omega (arith, b.at k, b.at (k + 1)) in
       rw (p, q)
 
-  pub be16-low : be16 l k < 65536
+  pub be16_low : be16 l k < 65536
   unfolding be16
-  be16-low = omega (arith, b.at k, b.at (k + 1))
+  be16_low = omega (arith, b.at k, b.at (k + 1))
 
 module _ (l : List ℕ) (b : AllBytes l) (k : ℕ) where
   pub bytes-be32 : bytes32 (be32 l k) ≡ byte l k ∷ byte l (k + 1) ∷ byte l (k + 2) ∷ byte l (k + 2 + 1) ∷ []
   unfolding be32 bytes32
   bytes-be32 =
-      let p : be32 l k / 65536 ≡ be16 l k = omega (arith, be16-low l b k, be16-low l b (k + 2)) in
-      let q : be32 l k % 65536 ≡ be16 l (k + 2) = omega (arith, be16-low l b k, be16-low l b (k + 2)) in
+      let p : be32 l k / 65536 ≡ be16 l k = omega (arith, be16_low l b k, be16_low l b (k + 2)) in
+      let q : be32 l k % 65536 ≡ be16 l (k + 2) = omega (arith, be16_low l b k, be16_low l b (k + 2)) in
       rw (p, q, bytes-be16 l b k, bytes-be16 l b (k + 2))
 
-  pub be32-low : be32 l k < 2 ^ 32
+  pub be32_low : be32 l k < 2 ^ 32
   unfolding be32
-  be32-low = omega (arith, be16-low l b k, be16-low l b (k + 2))
+  be32_low = omega (arith, be16_low l b k, be16_low l b (k + 2))
 
 -- a list that begins with a mark has its bytes
 pub mark-bytes : (l m : List ℕ) → starts l m ≡ true → (byte l 0 ≡ byte m 0) × (byte l 1 ≡ byte m 1) × (byte l 2 ≡ byte m 2)

@@ -34,13 +34,13 @@ module _ {A : Type 0} (w : ℕ) where
     long : from + w - from ≡ w
     long = omega arith
 
-    pub part-lent : take (from + w - from) (drop from l) ≡ part w t l
+    pub part_lent : take (from + w - from) (drop from l) ≡ part w t l
     unfolding part
-    part-lent = ap₂ (λ (n i : ℕ). take n (drop i l)) long e
+    part_lent = ap₂ (λ (n i : ℕ). take n (drop i l)) long e
 
-    pub part-back : (new : List A) → take from l ++ (new ++ drop (from + w - from) (drop from l)) ≡ with_part w t l new
+    pub part_back : (new : List A) → take from l ++ (new ++ drop (from + w - from) (drop from l)) ≡ with_part w t l new
     unfolding with_part
-    part-back new = ap₂ (λ (n i : ℕ). take i l ++ (new ++ drop n (drop i l))) long e
+    part_back new = ap₂ (λ (n i : ℕ). take i l ++ (new ++ drop n (drop i l))) long e
 
   module _ (t : ℕ) (l : List A) (fits : w * t + w ≤ length l) where
     before : length (take (w * t) l) ≡ w * t
@@ -51,9 +51,9 @@ module _ {A : Type 0} (w : ℕ) where
     part-long = length-take-le w (drop (w * t) l) (omega (arith, length-drop (w * t) l))
 
     module _ (new : List A) (long : length new ≡ w) where
-      pub length-with : length (with_part w t l new) ≡ length l
+      pub length_with : length (with_part w t l new) ≡ length l
       unfolding with_part
-      length-with =
+      length_with =
           length-append (take (w * t) l) (new ++ drop w (drop (w * t) l))
           ∙ omega (arith, before, long, length-append new (drop w (drop (w * t) l)), length-drop w (drop (w * t) l), length-drop (w * t) l)
 

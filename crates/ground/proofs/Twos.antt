@@ -26,17 +26,17 @@ signed_is v h = rw (lt-ltb v 4294967296 h) (go (ltb v 2147483648) refl)
     go true e = rw e
     go false e = rw e
 
-pub bits-low : (x : ℤ) → SFits w32 x → bits32 x < 2 ^ 32
-bits-low x f = rw (bits_is x) (of_z_fits w32 x f).fits
+pub bits_low : (x : ℤ) → SFits w32 x → bits32 x < 2 ^ 32
+bits_low x f = rw (bits_is x) (of_z_fits w32 x f).fits
 
-pub signed-fits : (v : ℕ) → v < 2 ^ 32 → SFits w32 (signed32 v)
-signed-fits v h = rw (signed_is v h) (to_z-Fits w32 v (record { fits = h }))
+pub signed_fits : (v : ℕ) → v < 2 ^ 32 → SFits w32 (signed32 v)
+signed_fits v h = rw (signed_is v h) (to_z-Fits w32 v (record { fits = h }))
 
-pub signed-bits : (x : ℤ) → SFits w32 x → signed32 (bits32 x) ≡ x
-signed-bits x f = signed_is (bits32 x) (bits-low x f) ∙ ap (to_z w32) (bits_is x) ∙ to_z-of_z w32 x f
+pub signed_bits : (x : ℤ) → SFits w32 x → signed32 (bits32 x) ≡ x
+signed_bits x f = signed_is (bits32 x) (bits_low x f) ∙ ap (to_z w32) (bits_is x) ∙ to_z-of_z w32 x f
 
-pub bits-signed : (v : ℕ) → v < 2 ^ 32 → bits32 (signed32 v) ≡ v
-bits-signed v h = bits_is (signed32 v) ∙ ap (of_z w32) (signed_is v h) ∙ of_z-to_z w32 v (record { fits = h })
+pub bits_signed : (v : ℕ) → v < 2 ^ 32 → bits32 (signed32 v) ≡ v
+bits_signed v h = bits_is (signed32 v) ∙ ap (of_z w32) (signed_is v h) ∙ of_z-to_z w32 v (record { fits = h })
 
 -- ---- from bits, in the upper half
 
@@ -49,12 +49,12 @@ module _ (v : ℕ) (h : 2147483648 ≤ v) (f : v < 2 ^ 32) where
       rw (to_z_pos w32 (v - 2147483648) (omega arith))
       (rw (lt-ltb (v - 2147483648) 2147483648 (omega arith)) (ap negsuc (omega arith)))
 
-  pub raised-fits : SFits w32 (raised v)
-  raised-fits = rw raised_is (record { sfits = omega arith })
+  pub raised_fits : SFits w32 (raised v)
+  raised_fits = rw raised_is (record { sfits = omega arith })
 
-  pub raised-signed : back (raised v) ≡ signed32 v
+  pub raised_signed : back (raised v) ≡ signed32 v
   unfolding signed32
-  raised-signed = back_is raised-fits ∙ raised_is ∙ rw (le-ltb v 2147483648 h, lt-ltb v 4294967296 f)
+  raised_signed = back_is raised_fits ∙ raised_is ∙ rw (le-ltb v 2147483648 h, lt-ltb v 4294967296 f)
 
 -- ---- to bits
 
@@ -80,10 +80,10 @@ pub record Down (x : ℤ) : Type 0 where
 lowered_is : (n : ℕ) → SFits w32 (negsuc n) → lowered (negsuc n) ≡ pos (2147483648 - suc n)
 lowered_is n f = rw (back_is f) (rw (le-ltb 2147483648 (suc n) (omega (arith, f.sfits))))
 
-at-down : (x : ℤ) → SFits w32 x → le_z (pos 0) x ≡ false → Down x
+at_down : (x : ℤ) → SFits w32 x → le_z (pos 0) x ≡ false → Down x
 unfolding bits32
-at-down (pos n) f h = absurd (true≢false (sym (leb-zero n) ∙ h))
-at-down (negsuc n) f h =
+at_down (pos n) f h = absurd (true≢false (sym (leb-zero n) ∙ h))
+at_down (negsuc n) f h =
     let e : lowered (negsuc n) ≡ pos (2147483648 - suc n) = lowered_is n f in
     let b : back (lowered (negsuc n)) ≡ pos (2147483648 - suc n) = ap back e ∙ to_z_pos w32 (2147483648 - suc n) (omega arith) in
     record {
@@ -94,4 +94,4 @@ at-down (negsuc n) f h =
     }
 
 pub down : (x : ℤ) → SFits w32 x → le_z (pos 0) (back x) ≡ false → Down x
-down x f h = at-down x f (rw (back_is f) at h)
+down x f h = at_down x f (rw (back_is f) at h)

@@ -20,10 +20,10 @@ unfolding verdict
 none-verdict [] n = refl
 none-verdict (c ∷ cs) n = rw n.0 (none-verdict cs n.1)
 
-pub no-verdict : (cs : List Check) → T (proper cs) → verdict cs ≡ 0 → NoneOf cs
+pub no_verdict : (cs : List Check) → T (proper cs) → verdict cs ≡ 0 → NoneOf cs
 unfolding verdict
-no-verdict [] p e = tt
-no-verdict (c ∷ cs) p e = go c.applies refl e (no-verdict cs (and_right (ltb 0 c.number) _ p))
+no_verdict [] p e = tt
+no_verdict (c ∷ cs) p e = go c.applies refl e (no_verdict cs (and_right (ltb 0 c.number) _ p))
   where
     go : (b : Bool) → c.applies ≡ b → cond b c.number (verdict cs) ≡ 0 → (verdict cs ≡ 0 → NoneOf cs) → (c.applies ≡ false) × NoneOf cs
     go true q e ih = absurd (omega (arith, ltb→lt 0 c.number (and_left (ltb 0 c.number) _ p), e))
@@ -54,41 +54,41 @@ module _ (cs ds : List Check) (p : T (proper cs)) where
   joined e f g = e ∙ ap₂ next f g ∙ sym (verdict-append cs ds p)
 
   -- none on the first list: the second decides
-  pub rest-decides : verdict cs ≡ 0 → verdict (cs ++ ds) ≡ verdict ds
+  pub rest_decides : verdict cs ≡ 0 → verdict (cs ++ ds) ≡ verdict ds
   unfolding next
-  rest-decides e = verdict-append cs ds p ∙ rw e
+  rest_decides e = verdict-append cs ds p ∙ rw e
 
   -- none on the second list: the first decides
-  pub first-decides : verdict ds ≡ 0 → verdict (cs ++ ds) ≡ verdict cs
+  pub first_decides : verdict ds ≡ 0 → verdict (cs ++ ds) ≡ verdict cs
   unfolding next
-  first-decides e = verdict-append cs ds p ∙ rw e (go (verdict cs))
+  first_decides e = verdict-append cs ds p ∙ rw e (go (verdict cs))
     where
       go : (v : ℕ) → next v 0 ≡ v
       go zero = refl
       go (suc v) = refl
 
   -- a verdict on the first list is one on both
-  pub still-refused : {no : ℕ} → no ≡ verdict cs → (no ≡ 0 → ⊥) → no ≡ verdict (cs ++ ds)
+  pub still_refused : {no : ℕ} → no ≡ verdict cs → (no ≡ 0 → ⊥) → no ≡ verdict (cs ++ ds)
   unfolding next
-  still-refused {no} e n = go no n e ∙ sym (verdict-append cs ds p)
+  still_refused {no} e n = go no n e ∙ sym (verdict-append cs ds p)
     where
       go : (no : ℕ) → (no ≡ 0 → ⊥) → no ≡ verdict cs → no ≡ next (verdict cs) (verdict ds)
       go zero n e = absurd (n refl)
       go (suc k) n e = rw (← e)
 
   -- none on both: none on either
-  pub no-verdicts : verdict (cs ++ ds) ≡ 0 → (verdict cs ≡ 0) × (verdict ds ≡ 0)
+  pub no_verdicts : verdict (cs ++ ds) ≡ 0 → (verdict cs ≡ 0) × (verdict ds ≡ 0)
   unfolding next
-  no-verdicts e = go (verdict cs) refl (sym (verdict-append cs ds p) ∙ e)
+  no_verdicts e = go (verdict cs) refl (sym (verdict-append cs ds p) ∙ e)
     where
       go : (v : ℕ) → verdict cs ≡ v → next (verdict cs) (verdict ds) ≡ 0 → (verdict cs ≡ 0) × (verdict ds ≡ 0)
       go zero q h = (q, rw q at h)
       go (suc v) q h = let z : suc v ≡ 0 = rw q at h in absurd (omega arith)
 
 -- a check after others, by a test that is the same: it decides where none of them applies
-pub last-decides : (cs : List Check) → T (proper cs) → (k : ℕ) (b : Bool) {no : ℕ} {r fit : Bool} → no ≡ verdict cs → no ≡ 0 → r ≡ fit → not r ≡ b → cond b k 0 ≡ verdict (cs ++ check k (not fit) ∷ [])
+pub last_decides : (cs : List Check) → T (proper cs) → (k : ℕ) (b : Bool) {no : ℕ} {r fit : Bool} → no ≡ verdict cs → no ≡ 0 → r ≡ fit → not r ≡ b → cond b k 0 ≡ verdict (cs ++ check k (not fit) ∷ [])
 unfolding verdict
-last-decides cs p k b e z f t = ap (λ (b : Bool). cond b k 0) (sym t ∙ ap not f) ∙ sym (rest-decides cs _ p (sym e ∙ z))
+last_decides cs p k b e z f t = ap (λ (b : Bool). cond b k 0) (sym t ∙ ap not f) ∙ sym (rest_decides cs _ p (sym e ∙ z))
 
 -- two lists with the same verdict are as good before a third
 pub same_first : (cs ds es : List Check) → T (proper cs) → T (proper ds) → verdict cs ≡ verdict ds → verdict (cs ++ es) ≡ verdict (ds ++ es)

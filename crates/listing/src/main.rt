@@ -1,4 +1,4 @@
-// Document 01, 'Listing program': reads one file from standard input, and prints its text. Where the input cannot be read it prints nothing. A program has no exit status: what failed stands in one line on standard error.
+// Document 01, 'Listing program': reads one file from standard input, and prints its text. Where the input cannot be read it prints nothing. What failed stands in one line on standard error, and the program ends with 0.
 
 #![tactic(auto)]
 

@@ -13,13 +13,13 @@ use Rattle.ground.specs.Answer.{Answer, answer, Outcome, outcome, after, outcome
 use Rattle.ground.specs.Lists.{table, with_part}
 use Rattle.ground.specs.declared.Done.{Done}
 use Rattle.ground.specs.declared.Done.TheVariants as done
-use Rattle.ground.proofs.Answers.{value-verdict, refused-verdict, outcome-refused, outcome-done, refused-leaves}
+use Rattle.ground.proofs.Answers.{value-verdict, refused-verdict, outcome-refused, outcome_done, refused-leaves}
 use Rattle.ground.proofs.Verdicts.{joined}
 use Rattle.words.specs.Word.{E}
 use Rattle.words.specs.Rule.{Rule}
 use Rattle.settings.specs.Settings.{turn_checks}
 use Rattle.settings.specs.declared.Turn.{Turn}
-use Rattle.settings.proofs.Good.{fits-ten}
+use Rattle.settings.proofs.Good.{fits_ten}
 use Rattle.vote.specs.Vote.{rule_of}
 use Rattle.exchange.specs.Exchange.{Exchange, exchange}
 use Rattle.exchange.specs.Asked.{inputs_long, value_checks}
@@ -52,17 +52,17 @@ module _ (turn : Turn) (x : ℤ) (statuses : List ℕ) (words : List ℤ) where
   right-long e = ap with_long e ∙ ap (λ (b : Bool). verdict (turn_checks turn ++ value_checks turn.rack x statuses b)) (and-true (inputs_long statuses words))
 
   -- it is wrong: the turn's refusal, or 5
-  wrong-long : {long : Bool} → long ≡ false → {k r : ℕ} → k ≡ verdict (turn_checks turn) → r ≡ next k refusal.long → r ≡ with_long long
+  wrong_long : {long : Bool} → long ≡ false → {k r : ℕ} → k ≡ verdict (turn_checks turn) → r ≡ next k refusal.long → r ≡ with_long long
   unfolding verdict
-  wrong-long e t h =
+  wrong_long e t h =
       joined (turn_checks turn) (value_checks turn.rack x statuses false) tt h t refl
       ∙ sym (ap with_long e ∙ ap (λ (b : Bool). verdict (turn_checks turn ++ value_checks turn.rack x statuses b)) (and-false (inputs_long statuses words)))
 
   -- no verdict: the sender is one of the ten cards
-  pub sender-ten : row_verdict ≡ 0 → turn.t < 10
-  sender-ten e =
+  pub sender_ten : row_verdict ≡ 0 → turn.t < 10
+  sender_ten e =
       let g = (turn-asked turn x statuses (inputs_long statuses words) e).0 in
-      fits-ten turn.rack g.rack.few turn.t g.sender
+      fits_ten turn.rack g.rack.few turn.t g.sender
 
   -- In code a value is read back from its bits: y is x.
 
@@ -88,63 +88,63 @@ module _ (turn : Turn) (x : ℤ) (statuses : List ℕ) (words : List ℤ) where
     unfolding row_made
     made_by e = ap (λ (k : ℕ). outcome k row) (sym e) ∙ ap (outcome row_verdict) left_is
 
-    pub made-refused : {k : ℕ} → d ≡ done.Refused k → outcome k row ≡ row_made turn x statuses words
-    made-refused e = made_by (refused-verdict tt row_verdict (yields ∙ ap of_done e)).0
+    pub made_refused : {k : ℕ} → d ≡ done.Refused k → outcome k row ≡ row_made turn x statuses words
+    made_refused e = made_by (refused-verdict tt row_verdict (yields ∙ ap of_done e)).0
 
-    pub made-done : d ≡ done.Done → outcome 0 row ≡ row_made turn x statuses words
-    made-done e = made_by (value-verdict tt row_verdict (yields ∙ ap of_done e)).0
+    pub made_done : d ≡ done.Done → outcome 0 row ≡ row_made turn x statuses words
+    made_done e = made_by (value-verdict tt row_verdict (yields ∙ ap of_done e)).0
 
   -- ---- the row set
 
   module _ {r : ℕ} {row : List ℤ} {y : ℤ} (made : outcome r row ≡ row_made turn y statuses words) (same : y ≡ x) where
-    made-is : outcome r row ≡ row_made turn x statuses words
-    made-is = made ∙ ap (λ (x : ℤ). row_made turn x statuses words) same
+    made_is : outcome r row ≡ row_made turn x statuses words
+    made_is = made ∙ ap (λ (x : ℤ). row_made turn x statuses words) same
 
     number : r ≡ row_verdict
     unfolding row_made
-    number = ap (λ (o : Outcome ℕ (List ℤ)). o.yields) made-is
+    number = ap (λ (o : Outcome ℕ (List ℤ)). o.yields) made_is
 
     row-made : r ≡ 0 → row ≡ row_for turn x statuses words
     unfolding row_made after
-    row-made z = ap (λ (o : Outcome ℕ (List ℤ)). o.leaves) made-is ∙ ap (λ (v : ℕ). after v (replicate 10 E) (row_for turn x statuses words)) (sym number ∙ z)
+    row-made z = ap (λ (o : Outcome ℕ (List ℤ)). o.leaves) made_is ∙ ap (λ (v : ℕ). after v (replicate 10 E) (row_for turn x statuses words)) (sym number ∙ z)
 
-    pub one-of-ten : r ≡ 0 → turn.t < 10
-    one-of-ten z = sender-ten (sym number ∙ z)
+    pub one_of_ten : r ≡ 0 → turn.t < 10
+    one_of_ten z = sender_ten (sym number ∙ z)
 
-    pub row-refused : (r ≡ 0 → ⊥) → (rows : List (List ℤ)) → outcome r rows ≡ row_asked turn x statuses words rows
+    pub row_refused : (r ≡ 0 → ⊥) → (rows : List (List ℤ)) → outcome r rows ≡ row_asked turn x statuses words rows
     unfolding row_asked
-    row-refused n rows =
+    row_refused n rows =
         let same = refused-leaves row_verdict rows (set rows turn.t (row_for turn x statuses words)) (λ z. n (number ∙ z)) in
         λ i. outcome (number i) (sym same i)
 
-    pub row-set : r ≡ 0 → (rows : List (List ℤ)) → outcome r (set rows turn.t row) ≡ row_asked turn x statuses words rows
+    pub row_set : r ≡ 0 → (rows : List (List ℤ)) → outcome r (set rows turn.t row) ≡ row_asked turn x statuses words rows
     unfolding row_asked after
-    row-set z rows = rw (← number, z, row-made z)
+    row_set z rows = rw (← number, z, row-made z)
 
     module _ (list : List ℤ) (long : length list ≡ outcome_words) where
-      list-number : r ≡ verdict (list_checks turn x statuses words list)
-      list-number = number ∙ sym (right-long (eq-eqb (length list) outcome_words long))
+      list_number : r ≡ verdict (list_checks turn x statuses words list)
+      list_number = number ∙ sym (right-long (eq-eqb (length list) outcome_words long))
 
-      pub list-refused : (r ≡ 0 → ⊥) → outcome (of_done (done.Refused r)) list ≡ list_asked turn x statuses words list
+      pub list_refused : (r ≡ 0 → ⊥) → outcome (of_done (done.Refused r)) list ≡ list_asked turn x statuses words list
       unfolding list_asked
-      list-refused n = outcome-refused list-number n _ _
+      list_refused n = outcome-refused list_number n _ _
 
       pub list_set : r ≡ 0 → {left : List ℤ} → left ≡ with_part 10 turn.t list row → outcome (of_done done.Done) left ≡ list_asked turn x statuses words list
       unfolding list_asked
-      list_set z h = outcome-done list-number z _ (h ∙ ap (with_part 10 turn.t list) (row-made z))
+      list_set z h = outcome_done list_number z _ (h ∙ ap (with_part 10 turn.t list) (row-made z))
 
   -- a list of another length
-  pub list-wrong : (list : List ℤ) → (length list ≡ outcome_words → ⊥) → {k r : ℕ} → k ≡ verdict (turn_checks turn) → r ≡ next k refusal.long → outcome (of_done (done.Refused r)) list ≡ list_asked turn x statuses words list
+  pub list_wrong : (list : List ℤ) → (length list ≡ outcome_words → ⊥) → {k r : ℕ} → k ≡ verdict (turn_checks turn) → r ≡ next k refusal.long → outcome (of_done (done.Refused r)) list ≡ list_asked turn x statuses words list
   unfolding list_asked
-  list-wrong list n {k} t h = outcome-refused (wrong-long (ne_eqb (length list) outcome_words n) t h) (some_number k h) _ _
+  list_wrong list n {k} t h = outcome-refused (wrong_long (ne_eqb (length list) outcome_words n) t h) (some_number k h) _ _
 
 -- ---- all E in a list
 
 module _ (list : List ℤ) where
-  pub start-wrong : (length list ≡ outcome_words → ⊥) → outcome (of_done (done.Refused refusal.long)) list ≡ start_asked list
+  pub start_wrong : (length list ≡ outcome_words → ⊥) → outcome (of_done (done.Refused refusal.long)) list ≡ start_asked list
   unfolding start_asked verdict
-  start-wrong n = outcome-refused (ap (λ (b : Bool). verdict (check refusal.long (not b) ∷ [])) (sym (ne_eqb (length list) outcome_words n))) (λ z. omega arith) _ _
+  start_wrong n = outcome-refused (ap (λ (b : Bool). verdict (check refusal.long (not b) ∷ [])) (sym (ne_eqb (length list) outcome_words n))) (λ z. omega arith) _ _
 
-  pub start-done : length list ≡ outcome_words → {left : List ℤ} → left ≡ replicate outcome_words E → outcome (of_done done.Done) left ≡ start_asked list
+  pub start_done : length list ≡ outcome_words → {left : List ℤ} → left ≡ replicate outcome_words E → outcome (of_done done.Done) left ≡ start_asked list
   unfolding start_asked verdict
-  start-done long h = outcome-done (ap (λ (b : Bool). verdict (check refusal.long (not b) ∷ [])) (sym (eq-eqb (length list) outcome_words long))) refl _ h
+  start_done long h = outcome_done (ap (λ (b : Bool). verdict (check refusal.long (not b) ∷ [])) (sym (eq-eqb (length list) outcome_words long))) refl _ h

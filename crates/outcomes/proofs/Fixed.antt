@@ -6,24 +6,24 @@ use lib.IntN.{ℤ}
 use Rattle.ground.specs.Answer.{Outcome, outcome}
 use Rattle.ground.specs.Fixes.{Fixes}
 use Rattle.ground.specs.declared.Done.{Done}
-use Rattle.ground.proofs.Answers.{outcome-apart}
+use Rattle.ground.proofs.Answers.{outcome_apart}
 use Rattle.outcomes.proofs.start.Kinds as start
-use Rattle.outcomes.proofs.start.Reads as start-says
-use Rattle.outcomes.proofs.set_row.Kinds as set-row
-use Rattle.outcomes.proofs.set_row.Reads as set-row-says
-use Rattle.outcomes.proofs.start_list.Kinds as start-list
-use Rattle.outcomes.proofs.start_list.Reads as start-list-says
-use Rattle.outcomes.proofs.set_in_list.Kinds as set-in-list
-use Rattle.outcomes.proofs.set_in_list.Reads as set-in-list-says
+use Rattle.outcomes.proofs.start.Reads as start_says
+use Rattle.outcomes.proofs.set_row.Kinds as set_row
+use Rattle.outcomes.proofs.set_row.Reads as set_row_says
+use Rattle.outcomes.proofs.start_list.Kinds as start_list
+use Rattle.outcomes.proofs.start_list.Reads as start_list_says
+use Rattle.outcomes.proofs.set_in_list.Kinds as set_in_list
+use Rattle.outcomes.proofs.set_in_list.Reads as set_in_list_says
 
-pub start-fixed : Fixes 0 start.ps start.r start-says.Post (List (List ℤ)) (λ κs x s. x)
-start-fixed κs a x y s t p q = p ∙ sym q
+pub start_fixed : Fixes 0 start.ps start.r start_says.Post (List (List ℤ)) (λ κs x s. x)
+start_fixed κs a x y s t p q = p ∙ sym q
 
-pub set-row-fixed : Fixes 3 set-row.ps set-row.r set-row-says.Post (Outcome ℕ (List (List ℤ))) (λ κs x s. outcome s.1.1.1.1.1.0.now x)
-set-row-fixed κs a x y s t p q = p ∙ sym q
+pub set_row_fixed : Fixes 3 set_row.ps set_row.r set_row_says.Post (Outcome ℕ (List (List ℤ))) (λ κs x s. outcome s.1.1.1.1.1.0.now x)
+set_row_fixed κs a x y s t p q = p ∙ sym q
 
-pub start-list-fixed : Fixes 1 start-list.ps start-list.r start-list-says.Post (Outcome Done (List ℤ)) (λ κs x s. outcome x s.0.now)
-start-list-fixed κs a x y s t p q = outcome-apart x y (p ∙ sym q)
+pub start_list_fixed : Fixes 1 start_list.ps start_list.r start_list_says.Post (Outcome Done (List ℤ)) (λ κs x s. outcome x s.0.now)
+start_list_fixed κs a x y s t p q = outcome_apart x y (p ∙ sym q)
 
-pub set-in-list-fixed : Fixes 3 set-in-list.ps set-in-list.r set-in-list-says.Post (Outcome Done (List ℤ)) (λ κs x s. outcome x s.1.1.1.1.0.now)
-set-in-list-fixed κs a x y s t p q = outcome-apart x y (p ∙ sym q)
+pub set_in_list_fixed : Fixes 3 set_in_list.ps set_in_list.r set_in_list_says.Post (Outcome Done (List ℤ)) (λ κs x s. outcome x s.1.1.1.1.0.now)
+set_in_list_fixed κs a x y s t p q = outcome_apart x y (p ∙ sym q)

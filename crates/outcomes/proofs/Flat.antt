@@ -21,8 +21,8 @@ use Rattle.ground.specs.Lists.{with_part}
 use Rattle.outcomes.specs.Rows.{start, word_at, row_of, outcome_words, flat}
 use Rattle.outcomes.specs.Asked.{row_for, row_asked, list_asked}
 use Rattle.outcomes.specs.Run.{Call, turn_for, exchange_for, number_for, left_by, after_calls, list_after_calls, started_list}
-use Rattle.outcomes.proofs.Asking.{row_verdict, right-long, sender-ten, start-done}
-use Rattle.outcomes.proofs.Runs.{left-long}
+use Rattle.outcomes.proofs.Asking.{row_verdict, right-long, sender_ten, start_done}
+use Rattle.outcomes.proofs.Runs.{left_long}
 
 -- ---- a list of equal parts, taken apart at the first
 
@@ -31,9 +31,9 @@ module _ {A : Type 0} (w : ℕ) (first rest new : List A) (long : length first �
   unfolding with_part
   with_first = let z : w * 0 ≡ 0 = omega arith in rw z (ap (λ (r : List A). new ++ r) (drop_at first rest w long))
 
-  with-later : (t : ℕ) → with_part w (suc t) (first ++ rest) new ≡ first ++ with_part w t rest new
+  with_later : (t : ℕ) → with_part w (suc t) (first ++ rest) new ≡ first ++ with_part w t rest new
   unfolding with_part
-  with-later t =
+  with_later t =
       let e : w * suc t ≡ length first + w * t = omega (arith, mul-suc w t) in
       rw (e, take-append-add first rest (w * t), drop-append-add first rest (w * t)) (append_assoc first (take (w * t) rest) (new ++ drop w (drop (w * t) rest)))
 
@@ -43,23 +43,23 @@ abbrev pub Tens : List (List ℤ) → Type 0
 Tens [] = Unit {0}
 Tens (row ∷ rows) = (length row ≡ 10) × Tens rows
 
-pub row-long : (R : Rule) (X : Exchange) → length (row_of R X) ≡ 10
+pub row_long : (R : Rule) (X : Exchange) → length (row_of R X) ≡ 10
 unfolding row_of
-row-long R X = length-table 10 0 _
+row_long R X = length-table 10 0 _
 
-tens-set : (rows : List (List ℤ)) (t : ℕ) (row : List ℤ) → Tens rows → length row ≡ 10 → Tens (set rows t row)
-tens-set [] t row h e = tt
-tens-set (r ∷ rows) zero row h e = (e, h.1)
-tens-set (r ∷ rows) (suc t) row h e = (h.0, tens-set rows t row h.1 e)
+tens_set : (rows : List (List ℤ)) (t : ℕ) (row : List ℤ) → Tens rows → length row ≡ 10 → Tens (set rows t row)
+tens_set [] t row h e = tt
+tens_set (r ∷ rows) zero row h e = (e, h.1)
+tens_set (r ∷ rows) (suc t) row h e = (h.0, tens_set rows t row h.1 e)
 
 -- ten rows of ten
 pub record Square (rows : List (List ℤ)) : Type 0 where
   pub ten : length rows ≡ 10
   pub tens : Tens rows
 
-pub square-start : Square start
+pub square_start : Square start
 unfolding start
-square-start = record { ten = refl; tens = (refl, (refl, (refl, (refl, (refl, (refl, (refl, (refl, (refl, (refl, tt)))))))))) }
+square_start = record { ten = refl; tens = (refl, (refl, (refl, (refl, (refl, (refl, (refl, (refl, (refl, (refl, tt)))))))))) }
 
 pub flat-long : (rows : List (List ℤ)) → Tens rows → length (flat rows) ≡ 10 * length rows
 unfolding flat
@@ -80,7 +80,7 @@ pub flat-set : (rows : List (List ℤ)) → Tens rows → (t : ℕ) (row : List 
 unfolding flat
 flat-set [] h t row i = absurd (omega arith)
 flat-set (r ∷ rows) h zero row i = with_first 10 r (flat rows) row h.0
-flat-set (r ∷ rows) h (suc t) row i = with-later 10 r (flat rows) row h.0 t ∙ ap (λ (l : List ℤ). r ++ l) (flat-set rows h.1 t row (omega arith))
+flat-set (r ∷ rows) h (suc t) row i = with_later 10 r (flat rows) row h.0 t ∙ ap (λ (l : List ℤ). r ++ l) (flat-set rows h.1 t row (omega arith))
 
 pub flat_start : flat start ≡ replicate outcome_words E
 unfolding flat start
@@ -98,40 +98,40 @@ module _ (turn : Turn) (x : ℤ) (statuses : List ℕ) (words : List ℤ) (rows 
       ∙ ap (outcome (answer (row_verdict turn x statuses words) tt)) (go (row_verdict turn x statuses words) refl)
     where
       go : (k : ℕ) → row_verdict turn x statuses words ≡ k → after k (flat rows) (with_part 10 turn.t (flat rows) (row_for turn x statuses words)) ≡ flat (after k rows (set rows turn.t (row_for turn x statuses words)))
-      go zero e = unfold after in flat-set rows s.tens turn.t _ (omega (arith, s.ten, sender-ten turn x statuses words e))
+      go zero e = unfold after in flat-set rows s.tens turn.t _ (omega (arith, s.ten, sender_ten turn x statuses words e))
       go (suc k) e = unfold after in refl
 
 -- ---- a run
 
 module _ (rack : Rack) (statuses : List ℕ) where
-  left-square : (rows : List (List ℤ)) → Square rows → (c : Call) → Square (left_by rack statuses rows c)
+  left_square : (rows : List (List ℤ)) → Square rows → (c : Call) → Square (left_by rack statuses rows c)
   unfolding row_asked
-  left-square rows s c = record { ten = left-long rack statuses rows c ∙ s.ten; tens = go (number_for rack statuses c) }
+  left_square rows s c = record { ten = left_long rack statuses rows c ∙ s.ten; tens = go (number_for rack statuses c) }
     where
       go : (k : ℕ) → Tens (after k rows (set rows c.sender (row_of (rule_of rack) (exchange_for rack statuses c))))
-      go zero = unfold after in tens-set rows c.sender _ s.tens (row-long (rule_of rack) (exchange_for rack statuses c))
+      go zero = unfold after in tens_set rows c.sender _ s.tens (row_long (rule_of rack) (exchange_for rack statuses c))
       go (suc k) = unfold after in s.tens
 
-  pub after-square : (rows : List (List ℤ)) → Square rows → (cs : List Call) → Square (after_calls rack statuses rows cs)
+  pub after_square : (rows : List (List ℤ)) → Square rows → (cs : List Call) → Square (after_calls rack statuses rows cs)
   unfolding after_calls
-  after-square rows s [] = s
-  after-square rows s (c ∷ cs) = after-square (left_by rack statuses rows c) (left-square rows s c) cs
+  after_square rows s [] = s
+  after_square rows s (c ∷ cs) = after_square (left_by rack statuses rows c) (left_square rows s c) cs
 
-  pub list-after : (rows : List (List ℤ)) → Square rows → (cs : List Call) → list_after_calls rack statuses (flat rows) cs ≡ flat (after_calls rack statuses rows cs)
+  pub list_after : (rows : List (List ℤ)) → Square rows → (cs : List Call) → list_after_calls rack statuses (flat rows) cs ≡ flat (after_calls rack statuses rows cs)
   unfolding list_after_calls after_calls
-  list-after rows s [] = refl
-  list-after rows s (c ∷ cs) =
+  list_after rows s [] = refl
+  list_after rows s (c ∷ cs) =
       ap (λ (o : Outcome (Answer (Unit {0})) (List ℤ)). list_after_calls rack statuses o.leaves cs) (list-asked (turn_for rack c) c.value statuses c.words rows s)
-      ∙ list-after (left_by rack statuses rows c) (left-square rows s c) cs
+      ∙ list_after (left_by rack statuses rows c) (left_square rows s c) cs
 
   -- from all E, in any list of 100 words
   module _ (list : List ℤ) (long : length list ≡ outcome_words) (cs : List Call) where
-    pub started-after : started_list rack statuses list cs ≡ flat (after_calls rack statuses start cs)
-    started-after =
-        let left = ap (λ (o : Outcome (Answer (Unit {0})) (List ℤ)). o.leaves) (start-done list long refl) in
-        ap (λ (l : List ℤ). list_after_calls rack statuses l cs) (sym left ∙ sym flat_start) ∙ list-after start square-start cs
+    pub started_after : started_list rack statuses list cs ≡ flat (after_calls rack statuses start cs)
+    started_after =
+        let left = ap (λ (o : Outcome (Answer (Unit {0})) (List ℤ)). o.leaves) (start_done list long refl) in
+        ap (λ (l : List ℤ). list_after_calls rack statuses l cs) (sym left ∙ sym flat_start) ∙ list_after start square_start cs
 
-    pub started-word : {t p : ℕ} → t < 10 → p < 10 → at (started_list rack statuses list cs) (10 * t + p) ≡ word_at (after_calls rack statuses start cs) t p
-    started-word {t} {p} h g =
-        let s = after-square start square-start cs in
-        ap (λ (l : List ℤ). at l (10 * t + p)) started-after ∙ flat_word (after_calls rack statuses start cs) s.tens t p (omega (arith, s.ten)) g
+    pub started_word : {t p : ℕ} → t < 10 → p < 10 → at (started_list rack statuses list cs) (10 * t + p) ≡ word_at (after_calls rack statuses start cs) t p
+    started_word {t} {p} h g =
+        let s = after_square start square_start cs in
+        ap (λ (l : List ℤ). at l (10 * t + p)) started_after ∙ flat_word (after_calls rack statuses start cs) s.tens t p (omega (arith, s.ten)) g

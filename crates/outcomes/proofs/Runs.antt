@@ -13,9 +13,9 @@ use lib.Seq.{get_or-set_same, get_or-set_other}
 use borrow.Author.Tests.{eqb-true, eq-eqb, ne_eqb}
 use Rattle.ground.specs.Answer.{after}
 use Rattle.ground.specs.Lists.{at}
-use Rattle.ground.proofs.Bools.{T-eq}
+use Rattle.ground.proofs.Bools.{T_eq}
 use Rattle.ground.proofs.Lists.{at_table}
-use Rattle.ground.proofs.Verdicts.{no-verdicts}
+use Rattle.ground.proofs.Verdicts.{no_verdicts}
 use Rattle.words.specs.Word.{E, kind_of}
 use Rattle.words.specs.declared.Kind.TheVariants.{Ordinary}
 use Rattle.words.specs.Rule.{Rule}
@@ -25,11 +25,11 @@ use Rattle.settings.proofs.Good.{GoodTurn}
 use Rattle.vote.specs.Vote.{rule_of}
 use Rattle.exchange.specs.Exchange.{Exchange, answer_of}
 use Rattle.exchange.specs.Asked.{inputs_long}
-use Rattle.exchange.proofs.Asking.{turn-asked, values-asked}
+use Rattle.exchange.proofs.Asking.{turn-asked, values_asked}
 use Rattle.outcomes.specs.Rows.{start, word_at, row_of}
 use Rattle.outcomes.specs.Asked.{row_asked}
 use Rattle.outcomes.specs.Run.{Call, turn_for, exchange_for, number_for, left_by, after_calls, sets, last_after, last_for, row_left, word_left}
-use Rattle.outcomes.proofs.Asking.{sender-ten}
+use Rattle.outcomes.proofs.Asking.{sender_ten}
 
 -- a card's word in a row
 pub row_word : (R : Rule) (X : Exchange) (p : ℕ) → p < 10 → at (row_of R X) p ≡ cond (fits X.rack p) (answer_of R X p) E
@@ -55,25 +55,25 @@ module _ (rack : Rack) (statuses : List ℕ) where
         of_sender = eqb-true c.sender t both.1;
         number = none;
         turn = (turn-asked (turn_for rack c) c.value statuses long none).0;
-        ordinary = (values-asked rack c.value statuses long (no-verdicts (turn_checks (turn_for rack c)) _ tt none).1).2;
+        ordinary = (values_asked rack c.value statuses long (no_verdicts (turn_checks (turn_for rack c)) _ tt none).1).2;
       }
 
   -- ---- one call
 
-  pub left-long : (rows : List (List ℤ)) (c : Call) → length (left_by rack statuses rows c) ≡ length rows
+  pub left_long : (rows : List (List ℤ)) (c : Call) → length (left_by rack statuses rows c) ≡ length rows
   unfolding row_asked
-  left-long rows c = go (number_for rack statuses c)
+  left_long rows c = go (number_for rack statuses c)
     where
       go : (v : ℕ) → length (after v rows (set rows c.sender (row_of (rule_of rack) (exchange_for rack statuses c)))) ≡ length rows
       go zero = unfold after in length-set rows c.sender _
       go (suc v) = unfold after in refl
 
-  left-row : (rows : List (List ℤ)) → length rows ≡ 10 → (c : Call) (t : ℕ) → get_or (left_by rack statuses rows c) t [] ≡ cond (sets rack statuses t c) (row_of (rule_of rack) (exchange_for rack statuses c)) (get_or rows t [])
+  left_row : (rows : List (List ℤ)) → length rows ≡ 10 → (c : Call) (t : ℕ) → get_or (left_by rack statuses rows c) t [] ≡ cond (sets rack statuses t c) (row_of (rule_of rack) (exchange_for rack statuses c)) (get_or rows t [])
   unfolding row_asked
-  left-row rows ten c t = go (number_for rack statuses c) refl (ℕ_discrete t c.sender)
+  left_row rows ten c t = go (number_for rack statuses c) refl (ℕ_discrete t c.sender)
     where
       go : (v : ℕ) → number_for rack statuses c ≡ v → Dec (t ≡ c.sender) → get_or (after v rows (set rows c.sender (row_of (rule_of rack) (exchange_for rack statuses c)))) t [] ≡ cond (eqb v 0 && eqb c.sender t) (row_of (rule_of rack) (exchange_for rack statuses c)) (get_or rows t [])
-      go zero e (yes s) = unfold after in rw (s, eq-eqb c.sender c.sender refl) (get_or-set_same rows c.sender _ [] (omega (arith, ten, sender-ten (turn_for rack c) c.value statuses c.words e)))
+      go zero e (yes s) = unfold after in rw (s, eq-eqb c.sender c.sender refl) (get_or-set_same rows c.sender _ [] (omega (arith, ten, sender_ten (turn_for rack c) c.value statuses c.words e)))
       go zero e (no n) = unfold after in rw (ne_eqb c.sender t (λ q. n (sym q))) (get_or-set_other rows c.sender t _ [] n)
       go (suc v) e d = unfold after in rw (ne_eqb (suc v) 0 (λ q. omega arith))
 
@@ -82,21 +82,21 @@ module _ (rack : Rack) (statuses : List ℕ) where
   pub after-long : (rows : List (List ℤ)) (cs : List Call) → length (after_calls rack statuses rows cs) ≡ length rows
   unfolding after_calls
   after-long rows [] = refl
-  after-long rows (c ∷ cs) = after-long (left_by rack statuses rows c) cs ∙ left-long rows c
+  after-long rows (c ∷ cs) = after-long (left_by rack statuses rows c) cs ∙ left_long rows c
 
   left_after : (t : ℕ) (row : List ℤ) (cs : List Call) (rows : List (List ℤ)) (z : Option Call) → length rows ≡ 10 → get_or rows t [] ≡ row_left rack statuses z row → get_or (after_calls rack statuses rows cs) t [] ≡ row_left rack statuses (last_after rack statuses t cs z) row
   unfolding after_calls last_after
   left_after t row [] rows z ten e = e
   left_after t row (c ∷ cs) rows z ten e =
-      left_after t row cs (left_by rack statuses rows c) _ (left-long rows c ∙ ten) (left-row rows ten c t ∙ go (sets rack statuses t c))
+      left_after t row cs (left_by rack statuses rows c) _ (left_long rows c ∙ ten) (left_row rows ten c t ∙ go (sets rack statuses t c))
     where
       go : (b : Bool) → cond b (row_of (rule_of rack) (exchange_for rack statuses c)) (get_or rows t []) ≡ row_left rack statuses (cond b (some c) z) row
       go true = refl
       go false = e
 
   -- each row is that of its sender's last exchange, or as it was handed in
-  pub row-after : (rows : List (List ℤ)) → length rows ≡ 10 → (cs : List Call) (t : ℕ) → get_or (after_calls rack statuses rows cs) t [] ≡ row_left rack statuses (last_for rack statuses t cs) (get_or rows t [])
-  row-after rows ten cs t = left_after t (get_or rows t []) cs rows none ten refl
+  pub row_after : (rows : List (List ℤ)) → length rows ≡ 10 → (cs : List Call) (t : ℕ) → get_or (after_calls rack statuses rows cs) t [] ≡ row_left rack statuses (last_for rack statuses t cs) (get_or rows t [])
+  row_after rows ten cs t = left_after t (get_or rows t []) cs rows none ten refl
 
   -- ---- the last exchange
 
@@ -110,10 +110,10 @@ module _ (rack : Rack) (statuses : List ℕ) where
   last_none t [] z n = refl
   last_none t (c ∷ cs) z n = rw n.0 (last_none t cs z n.1)
 
-  pub last-is : (t : ℕ) (before : List Call) (c : Call) (later : List Call) (z : Option Call) → sets rack statuses t c ≡ true → NoneSets t later → last_after rack statuses t (before ++ c ∷ later) z ≡ some c
+  pub last_is : (t : ℕ) (before : List Call) (c : Call) (later : List Call) (z : Option Call) → sets rack statuses t c ≡ true → NoneSets t later → last_after rack statuses t (before ++ c ∷ later) z ≡ some c
   unfolding last_after
-  last-is t [] c later z e n = ap (λ (b : Bool). last_after rack statuses t later (cond b (some c) z)) e ∙ last_none t later (some c) n
-  last-is t (b ∷ before) c later z e n = last-is t before c later _ e n
+  last_is t [] c later z e n = ap (λ (b : Bool). last_after rack statuses t later (cond b (some c) z)) e ∙ last_none t later (some c) n
+  last_is t (b ∷ before) c later z e n = last_is t before c later _ e n
 
   abbrev Known : ℕ → Option Call → Type 0
   Known t none = Unit {0}
@@ -128,8 +128,8 @@ module _ (rack : Rack) (statuses : List ℕ) where
       go true e = accepted t c e
       go false e = k
 
-  pub last-accepted : (t : ℕ) (cs : List Call) {c : Call} → last_for rack statuses t cs ≡ some c → Accepted t c
-  last-accepted t cs e = rw e at (known t cs none tt)
+  pub last_accepted : (t : ℕ) (cs : List Call) {c : Call} → last_for rack statuses t cs ≡ some c → Accepted t c
+  last_accepted t cs e = rw e at (known t cs none tt)
 
   -- ---- from all E
 
@@ -138,7 +138,7 @@ module _ (rack : Rack) (statuses : List ℕ) where
     pub word_after : word_at (after_calls rack statuses start cs) t p ≡ word_left rack statuses (last_for rack statuses t cs) p
     unfolding start
     word_after =
-        ap (λ (row : List ℤ). at row p) (row-after start (length-replicate 10 (replicate 10 E)) cs t ∙ ap (row_left rack statuses (last_for rack statuses t cs)) (get_or-replicate 10 t (replicate 10 E) [] h))
+        ap (λ (row : List ℤ). at row p) (row_after start (length-replicate 10 (replicate 10 E)) cs t ∙ ap (row_left rack statuses (last_for rack statuses t cs)) (get_or-replicate 10 t (replicate 10 E) [] h))
         ∙ go (last_for rack statuses t cs)
       where
         go : (z : Option Call) → at (row_left rack statuses z (replicate 10 E)) p ≡ word_left rack statuses z p
@@ -146,27 +146,27 @@ module _ (rack : Rack) (statuses : List ℕ) where
         go (some c) = row_word (rule_of rack) (exchange_for rack statuses c) p g
 
     -- none was accepted for t
-    pub unset-word : last_for rack statuses t cs ≡ none → word_at (after_calls rack statuses start cs) t p ≡ E
-    unset-word e = word_after ∙ ap (λ (z : Option Call). word_left rack statuses z p) e
+    pub unset_word : last_for rack statuses t cs ≡ none → word_at (after_calls rack statuses start cs) t p ≡ E
+    unset_word e = word_after ∙ ap (λ (z : Option Call). word_left rack statuses z p) e
 
     -- the card's answer in the last that was
     pub set_word : {c : Call} → last_for rack statuses t cs ≡ some c → T (fits rack p) → word_at (after_calls rack statuses start cs) t p ≡ answer_of (rule_of rack) (exchange_for rack statuses c) p
-    set_word e f = word_after ∙ ap (λ (z : Option Call). word_left rack statuses z p) e ∙ rw (T-eq (fits rack p) f)
+    set_word e f = word_after ∙ ap (λ (z : Option Call). word_left rack statuses z p) e ∙ rw (T_eq (fits rack p) f)
 
     -- the card is n or more
-    pub absent-card : fits rack p ≡ false → word_at (after_calls rack statuses start cs) t p ≡ E
-    absent-card f = word_after ∙ go (last_for rack statuses t cs)
+    pub absent_card : fits rack p ≡ false → word_at (after_calls rack statuses start cs) t p ≡ E
+    absent_card f = word_after ∙ go (last_for rack statuses t cs)
       where
         go : (z : Option Call) → word_left rack statuses z p ≡ E
         go none = refl
         go (some c) = rw f
 
     -- the sender is
-    pub absent-sender : fits rack t ≡ false → word_at (after_calls rack statuses start cs) t p ≡ E
-    absent-sender f = word_after ∙ go (last_for rack statuses t cs) refl
+    pub absent_sender : fits rack t ≡ false → word_at (after_calls rack statuses start cs) t p ≡ E
+    absent_sender f = word_after ∙ go (last_for rack statuses t cs) refl
       where
         go : (z : Option Call) → last_for rack statuses t cs ≡ z → word_left rack statuses z p ≡ E
         go none e = refl
         go (some c) e =
-            let a = last-accepted t cs e in
-            absurd (true≢false (sym (T-eq (fits rack t) (rw a.of_sender at a.turn.sender)) ∙ f))
+            let a = last_accepted t cs e in
+            absurd (true≢false (sym (T_eq (fits rack t) (rw a.of_sender at a.turn.sender)) ∙ f))

@@ -27,14 +27,14 @@ module _ (d q1 q2 q3 : ℕ) where
   unfolding slot_asked verdict answer
   slot-over h e = rw (le-ltb 3 d h, e)
 
-  pub slot-good : d ≤ 3 → small ≡ true → slot_asked d q1 q2 q3 ≡ value (slot_of (used d q1 q2 q3))
+  pub slot_good : d ≤ 3 → small ≡ true → slot_asked d q1 q2 q3 ≡ value (slot_of (used d q1 q2 q3))
   unfolding slot_asked verdict answer
-  slot-good h e = rw (le-ltb 3 d h, e)
+  slot_good h e = rw (le-ltb 3 d h, e)
 
 -- a used relay over 9
-pub over-1 : (d q1 q2 q3 : ℕ) → d ≤ 3 → (d ≡ 0 → ⊥) → 10 ≤ q1 → slot_asked d q1 q2 q3 ≡ refused 8
+pub over_1 : (d q1 q2 q3 : ℕ) → d ≤ 3 → (d ≡ 0 → ⊥) → 10 ≤ q1 → slot_asked d q1 q2 q3 ≡ refused 8
 unfolding used all
-over-1 d q1 q2 q3 h n g = slot-over d q1 q2 q3 h (go d n)
+over_1 d q1 q2 q3 h n g = slot-over d q1 q2 q3 h (go d n)
   where
     go : (d : ℕ) → (d ≡ 0 → ⊥) → all (λ q. ltb q 10) (used d q1 q2 q3) ≡ false
     go zero n = absurd (n refl)
@@ -42,9 +42,9 @@ over-1 d q1 q2 q3 h n g = slot-over d q1 q2 q3 h (go d n)
     go (suc (suc zero)) n = rw (le-ltb q1 10 g) (and_no (ltb q2 10) false refl)
     go (suc (suc (suc d))) n = rw (le-ltb q1 10 g) (and_no (ltb q3 10) _ (and_no (ltb q2 10) false refl))
 
-pub over-2 : (d q1 q2 q3 : ℕ) → d ≤ 3 → 1 < d → 10 ≤ q2 → slot_asked d q1 q2 q3 ≡ refused 8
+pub over_2 : (d q1 q2 q3 : ℕ) → d ≤ 3 → 1 < d → 10 ≤ q2 → slot_asked d q1 q2 q3 ≡ refused 8
 unfolding used all
-over-2 d q1 q2 q3 h n g = slot-over d q1 q2 q3 h (go d n)
+over_2 d q1 q2 q3 h n g = slot-over d q1 q2 q3 h (go d n)
   where
     go : (d : ℕ) → 1 < d → all (λ q. ltb q 10) (used d q1 q2 q3) ≡ false
     go zero n = absurd (omega arith)
@@ -52,26 +52,26 @@ over-2 d q1 q2 q3 h n g = slot-over d q1 q2 q3 h (go d n)
     go (suc (suc zero)) n = rw (le-ltb q2 10 g)
     go (suc (suc (suc d))) n = rw (le-ltb q2 10 g) (and_no (ltb q3 10) false refl)
 
-pub over-3 : (d q1 q2 q3 : ℕ) → d ≡ 3 → 10 ≤ q3 → slot_asked d q1 q2 q3 ≡ refused 8
+pub over_3 : (d q1 q2 q3 : ℕ) → d ≡ 3 → 10 ≤ q3 → slot_asked d q1 q2 q3 ≡ refused 8
 unfolding used all
-over-3 d q1 q2 q3 e g = slot-over d q1 q2 q3 (omega arith) (rw (e, le-ltb q3 10 g))
+over_3 d q1 q2 q3 e g = slot-over d q1 q2 q3 (omega arith) (rw (e, le-ltb q3 10 g))
 
 -- document 01's formula at each level
-pub at-0 : (d q1 q2 q3 : ℕ) → d ≡ 0 → slot_asked d q1 q2 q3 ≡ value 0
+pub at_0 : (d q1 q2 q3 : ℕ) → d ≡ 0 → slot_asked d q1 q2 q3 ≡ value 0
 unfolding used all slot_of
-at-0 d q1 q2 q3 e = slot-good d q1 q2 q3 (omega arith) (rw e) ∙ rw e
+at_0 d q1 q2 q3 e = slot_good d q1 q2 q3 (omega arith) (rw e) ∙ rw e
 
 pub at_1 : (d q1 q2 q3 : ℕ) → d ≡ 1 → q1 < 10 → slot_asked d q1 q2 q3 ≡ value (1 + q1)
 unfolding used all slot_of
-at_1 d q1 q2 q3 e a = slot-good d q1 q2 q3 (omega arith) (rw (e, lt-ltb q1 10 a)) ∙ rw e (ap value (omega arith))
+at_1 d q1 q2 q3 e a = slot_good d q1 q2 q3 (omega arith) (rw (e, lt-ltb q1 10 a)) ∙ rw e (ap value (omega arith))
 
-pub at-2 : (d q1 q2 q3 : ℕ) → d ≡ 2 → q1 < 10 → q2 < 10 → slot_asked d q1 q2 q3 ≡ value (11 + 10 * q1 + q2)
+pub at_2 : (d q1 q2 q3 : ℕ) → d ≡ 2 → q1 < 10 → q2 < 10 → slot_asked d q1 q2 q3 ≡ value (11 + 10 * q1 + q2)
 unfolding used all slot_of
-at-2 d q1 q2 q3 e a b = slot-good d q1 q2 q3 (omega arith) (rw (e, lt-ltb q2 10 b, lt-ltb q1 10 a)) ∙ rw e (ap value (omega arith))
+at_2 d q1 q2 q3 e a b = slot_good d q1 q2 q3 (omega arith) (rw (e, lt-ltb q2 10 b, lt-ltb q1 10 a)) ∙ rw e (ap value (omega arith))
 
-pub at-3 : (d q1 q2 q3 : ℕ) → d ≡ 3 → q1 < 10 → q2 < 10 → q3 < 10 → slot_asked d q1 q2 q3 ≡ value (111 + 100 * q1 + 10 * q2 + q3)
+pub at_3 : (d q1 q2 q3 : ℕ) → d ≡ 3 → q1 < 10 → q2 < 10 → q3 < 10 → slot_asked d q1 q2 q3 ≡ value (111 + 100 * q1 + 10 * q2 + q3)
 unfolding used all slot_of
-at-3 d q1 q2 q3 e a b c = slot-good d q1 q2 q3 (omega arith) (rw (e, lt-ltb q3 10 c, lt-ltb q2 10 b, lt-ltb q1 10 a)) ∙ rw e (ap value (omega arith))
+at_3 d q1 q2 q3 e a b c = slot_good d q1 q2 q3 (omega arith) (rw (e, lt-ltb q3 10 c, lt-ltb q2 10 b, lt-ltb q1 10 a)) ∙ rw e (ap value (omega arith))
 
 -- the slot above
 pub above-refused : (k : ℕ) → (eqb k 0 || leb 1111 k) ≡ true → above_asked k ≡ refused 8

@@ -8,8 +8,8 @@ use lib.Dec.{T, ltb, leb, eqb, ltb→lt, lt→ltb, leb→le, le→leb, eqb→eq,
 use Rattle.ground.specs.Lists.{all}
 use Rattle.settings.specs.declared.Settings.{Settings}
 use Rattle.paths.specs.Slots.{below, above, last_relay, level, relays_by, relays, none_of, different, may_relay, live, lengthens}
-use Rattle.ground.proofs.Bools.{and_left, and_right, and_both, or_right, or-drop, iff-eq}
-use Rattle.paths.proofs.Levels.{level-above, level-below, pos-level, relays-below}
+use Rattle.ground.proofs.Bools.{and_left, and_right, and_both, or_right, or_drop, iff_eq}
+use Rattle.paths.proofs.Levels.{level-above, level-below, pos_level, relays-below}
 
 module _ (s : Settings) (k : ℕ) (h : T (live s k)) where
   pub live-slot : k < 1111
@@ -46,9 +46,9 @@ live_of s k a b c d e =
     (and_both (all (may_relay s) (relays k)) _ c (and_both (different (relays k)) _ d e)))
 
 -- slot 0 is live, whatever the settings
-pub live-zero : (s : Settings) → T (live s 0)
+pub live_zero : (s : Settings) → T (live s 0)
 unfolding relays_by all different level
-live-zero s = live_of s 0 (omega arith) (omega arith) tt tt tt
+live_zero s = live_of s 0 (omega arith) (omega arith) tt tt tt
 
 -- p is not t
 pub apart_of : (s : Settings) → (s.p ≡ s.t → ⊥) → T (not (eqb s.p s.t))
@@ -60,19 +60,19 @@ live_own s k e t = go (eqb k 0) refl
   where
     go : (b : Bool) → eqb k 0 ≡ b → k ≡ 0
     go true q = eqb→eq k 0 (subst T (sym q) tt)
-    go false q = absurd (T_not (eqb s.p s.t) (or-drop (eqb k 0) (not (eqb s.p s.t)) (live-sender s k t) (λ u. subst T q u)) (subst (λ (x : ℕ). T (eqb s.p x)) e (eqb_refl s.p)))
+    go false q = absurd (T_not (eqb s.p s.t) (or_drop (eqb k 0) (not (eqb s.p s.t)) (live-sender s k t) (λ u. subst T q u)) (subst (λ (x : ℕ). T (eqb s.p x)) e (eqb_refl s.p)))
 
 all_tail : (f : ℕ → Bool) (q : ℕ) (qs : List ℕ) → T (all f (q ∷ qs)) → T (all f qs)
 unfolding all
 all_tail f q qs t = and_right (f q) _ t
 
-different-tail : (q : ℕ) (qs : List ℕ) → T (different (q ∷ qs)) → T (different qs)
+different_tail : (q : ℕ) (qs : List ℕ) → T (different (q ∷ qs)) → T (different qs)
 unfolding different
-different-tail q qs t = and_right (none_of q qs) _ t
+different_tail q qs t = and_right (none_of q qs) _ t
 
 -- where p is not t, or the slot is over 0 and live
 apart : (s : Settings) (k : ℕ) → 0 < k → T (live s k) → T (not (eqb s.p s.t))
-apart s k p t = or-drop (eqb k 0) (not (eqb s.p s.t)) (live-sender s k t) (λ u. let z : k ≡ 0 = eqb→eq k 0 u in omega arith)
+apart s k p t = or_drop (eqb k 0) (not (eqb s.p s.t)) (live-sender s k t) (λ u. let z : k ≡ 0 = eqb→eq k 0 u in omega arith)
 
 -- the slot above a live slot is live
 pub live-above : (s : Settings) (k d : ℕ) → T (live s k) → level k ≡ suc d → T (live s (above k))
@@ -85,8 +85,8 @@ live-above s k d h e =
     let f : T (different (relays_by (suc d) k)) = rw e at (live-different s k h) in
     live_of s (above k) (omega arith) (omega arith)
     (rw la (all_tail (may_relay s) (last_relay k) (relays_by d (above k)) r))
-    (rw la (different-tail (last_relay k) (relays_by d (above k)) f))
-    (or_right (eqb (above k) 0) _ (apart s k (pos-level k d e) h))
+    (rw la (different_tail (last_relay k) (relays_by d (above k)) f))
+    (or_right (eqb (above k) 0) _ (apart s k (pos_level k d e) h))
 
 -- ---- the live paths directly below a live path are those by the cards that may relay and are not on it
 
@@ -110,4 +110,4 @@ module _ (s : Settings) (k q : ℕ) (g : q < 10) where
       (or_right (eqb (below k q) 0) _ n)
 
   pub live_below : T (live s k) → level k < s.rack.m → k < 111 → T (not (eqb s.p s.t)) → live s (below k q) ≡ lengthens s k q
-  live_below t l h n = iff-eq _ _ (below-lengthens h) (lengthens-below t l h n)
+  live_below t l h n = iff_eq _ _ (below-lengthens h) (lengthens-below t l h n)

@@ -11,15 +11,15 @@ use lib.Seq.{get_or-set_same, get_or-set_other}
 use borrow.Author.Tests.{eq-eqb, ne_eqb, lt-ltb, le-ltb, le-leb, lt-leb}
 use Rattle.ground.specs.Answer.{Outcome, outcome}
 use Rattle.ground.specs.Lists.{table, all}
-use Rattle.ground.proofs.Bools.{T-eq}
-use Rattle.ground.proofs.Lists.{length-table, at_table, is-table}
+use Rattle.ground.proofs.Bools.{T_eq}
+use Rattle.ground.proofs.Lists.{length-table, at_table, is_table}
 use Rattle.settings.specs.Settings.{fits}
 use Rattle.settings.specs.declared.Settings.{Settings}
 use Rattle.paths.specs.Slots.{above, last_relay, level, relays_by, relays, none_of, different, may_relay, live, lengthens, members_of}
 use Rattle.paths.specs.Asked.{opens, live_in}
 use Rattle.paths.specs.Walk.{may, among, take_out}
-use Rattle.paths.proofs.Levels.{relays-cons}
-use Rattle.paths.proofs.Live.{live-zero}
+use Rattle.paths.proofs.Levels.{relays_cons}
+use Rattle.paths.proofs.Live.{live_zero}
 
 -- ---- one card
 
@@ -43,7 +43,7 @@ pub may-table : (s : Settings) {l : List Bool} → l ≡ table 10 0 (fits s.rack
 unfolding may_relay
 may-table s {l} same =
     let e : length l ≡ 10 = ap length same ∙ length-table 10 0 (fits s.rack) in
-    is-table 10 _ false _ (length-set (set l s.t false) s.p false ∙ length-set l s.t false ∙ e)
+    is_table 10 _ false _ (length-set (set l s.t false) s.p false ∙ length-set l s.t false ∙ e)
     (λ i g. barred (set l s.t false) s.p i (omega (arith, length-set l s.t false))
     ∙ ap (λ (b : Bool). b && not (eqb i s.p)) (barred l s.t i (omega arith))
     ∙ ap (λ (b : Bool). (b && not (eqb i s.t)) && not (eqb i s.p)) (ap (λ (l : List Bool). may l i) same ∙ at_table 10 0 (fits s.rack) i false g ∙ ap (fits s.rack) (omega arith))
@@ -51,14 +51,14 @@ may-table s {l} same =
 
 -- ---- whether q is a relay of the path at k, relay by relay
 
-pub none-zero : (q k : ℕ) → k ≤ 0 → none_of q (relays k) ≡ true
+pub none_zero : (q k : ℕ) → k ≤ 0 → none_of q (relays k) ≡ true
 unfolding none_of all relays_by level
-none-zero q k h = let e : k ≡ 0 = omega arith in rw e
+none_zero q k h = let e : k ≡ 0 = omega arith in rw e
 
 module _ (q k : ℕ) (h : k < 1111) (p : 0 < k) where
   pub none-step : none_of q (relays k) ≡ (not (eqb q (last_relay k)) && none_of q (relays (above k)))
   unfolding none_of all
-  none-step = rw (relays-cons k h p)
+  none-step = rw (relays_cons k h p)
 
   pub none-next : (q ≡ last_relay k → ⊥) → none_of q (relays (above k)) ≡ none_of q (relays k)
   none-next n = sym (none-step ∙ rw (ne_eqb q (last_relay k) n))
@@ -66,17 +66,17 @@ module _ (q k : ℕ) (h : k < 1111) (p : 0 < k) where
 -- ---- a path's relays
 
 -- a card that is taken out is no member, and the others are as before
-may-out : (l : List Bool) (q r : ℕ) → q < length l → may (set l q false) r ≡ (may l r && not (eqb q r))
-may-out l q r h = go (ℕ_discrete q r)
+may_out : (l : List Bool) (q r : ℕ) → q < length l → may (set l q false) r ≡ (may l r && not (eqb q r))
+may_out l q r h = go (ℕ_discrete q r)
   where
     go : Dec (q ≡ r) → may (set l q false) r ≡ (may l r && not (eqb q r))
     go (yes e) = rw (eq-eqb q r e) (ap (may (set l q false)) (sym e) ∙ get_or-set_same l q false false h ∙ sym (and-false (may l r)))
     go (no n) = rw (ne_eqb q r n) (get_or-set_other l q r false false (λ e. n (sym e)) ∙ sym (and-true (may l r)))
 
-all-out : (l : List Bool) (q : ℕ) (qs : List ℕ) → q < length l → all (may (set l q false)) qs ≡ (all (may l) qs && none_of q qs)
+all_out : (l : List Bool) (q : ℕ) (qs : List ℕ) → q < length l → all (may (set l q false)) qs ≡ (all (may l) qs && none_of q qs)
 unfolding all none_of
-all-out l q [] h = refl
-all-out l q (r ∷ rs) h = ap₂ (λ (a : Bool) (b : Bool). a && b) (may-out l q r h) (all-out l q rs h) ∙ swap (may l r) (not (eqb q r)) (all (may l) rs) _
+all_out l q [] h = refl
+all_out l q (r ∷ rs) h = ap₂ (λ (a : Bool) (b : Bool). a && b) (may_out l q r h) (all_out l q rs h) ∙ swap (may l r) (not (eqb q r)) (all (may l) rs) _
   where
     swap : (a b c d : Bool) → ((a && b) && (c && d)) ≡ ((a && c) && (b && d))
     swap true true c d = refl
@@ -85,50 +85,50 @@ all-out l q (r ∷ rs) h = ap₂ (λ (a : Bool) (b : Bool). a && b) (may-out l q
     swap false b c d = refl
 
 module _ (l : List Bool) (q : ℕ) (qs : List ℕ) where
-  found-one : may l q ≡ true → take_out l (q ∷ qs) ≡ take_out (set l q false) qs
+  found_one : may l q ≡ true → take_out l (q ∷ qs) ≡ take_out (set l q false) qs
   unfolding take_out
-  found-one t = rw t
+  found_one t = rw t
 
   found_none : may l q ≡ false → take_out l (q ∷ qs) ≡ outcome false l
   unfolding take_out
   found_none t = rw t
 
-  taken-one : q < length l → (take_out (set l q false) qs).yields ≡ among (set l q false) qs → (b : Bool) → may l q ≡ b → (take_out l (q ∷ qs)).yields ≡ among l (q ∷ qs)
+  taken_one : q < length l → (take_out (set l q false) qs).yields ≡ among (set l q false) qs → (b : Bool) → may l q ≡ b → (take_out l (q ∷ qs)).yields ≡ among l (q ∷ qs)
   unfolding all different
-  taken-one h rest true t =
-      rw (found-one t, t)
-      (rest ∙ ap (λ (b : Bool). b && different qs) (all-out l q qs h) ∙ join (all (may l) qs) (none_of q qs) (different qs))
-  taken-one h rest false t = rw (found_none t, t)
+  taken_one h rest true t =
+      rw (found_one t, t)
+      (rest ∙ ap (λ (b : Bool). b && different qs) (all_out l q qs h) ∙ join (all (may l) qs) (none_of q qs) (different qs))
+  taken_one h rest false t = rw (found_none t, t)
 
-  others-one : (i : ℕ) → i < length l → ((take_out (set l q false) qs).yields ≡ true → may (take_out (set l q false) qs).leaves i ≡ (may (set l q false) i && none_of i qs)) → (take_out l (q ∷ qs)).yields ≡ true → (b : Bool) → may l q ≡ b → may (take_out l (q ∷ qs)).leaves i ≡ (may l i && none_of i (q ∷ qs))
+  others_one : (i : ℕ) → i < length l → ((take_out (set l q false) qs).yields ≡ true → may (take_out (set l q false) qs).leaves i ≡ (may (set l q false) i && none_of i qs)) → (take_out l (q ∷ qs)).yields ≡ true → (b : Bool) → may l q ≡ b → may (take_out l (q ∷ qs)).leaves i ≡ (may l i && none_of i (q ∷ qs))
   unfolding none_of all
-  others-one i h rest y true t =
-      rw (found-one t)
-      (rest (rw (found-one t) at y)
+  others_one i h rest y true t =
+      rw (found_one t)
+      (rest (rw (found_one t) at y)
       ∙ ap (λ (b : Bool). b && none_of i qs) (barred l q i h)
       ∙ join (may l i) (not (eqb i q)) (none_of i qs))
-  others-one i h rest y false t = never (rw (found_none t) at y)
+  others_one i h rest y false t = never (rw (found_none t) at y)
 
-  long-one : length (take_out (set l q false) qs).leaves ≡ length l → (b : Bool) → may l q ≡ b → length (take_out l (q ∷ qs)).leaves ≡ length l
-  long-one rest true t = rw (found-one t) rest
-  long-one rest false t = rw (found_none t)
+  long_one : length (take_out (set l q false) qs).leaves ≡ length l → (b : Bool) → may l q ≡ b → length (take_out l (q ∷ qs)).leaves ≡ length l
+  long_one rest true t = rw (found_one t) rest
+  long_one rest false t = rw (found_none t)
 
 -- relays are all taken out where they are all members and all different
 taken : (l : List Bool) → length l ≡ 10 → (d k : ℕ) → (take_out l (relays_by d k)).yields ≡ among l (relays_by d k)
 unfolding take_out relays_by all different
 taken l e zero k = refl
-taken l e (suc d) k = taken-one l (last_relay k) (relays_by d (above k)) (omega arith) (taken (set l (last_relay k) false) (length-set l (last_relay k) false ∙ e) d (above k)) (may l (last_relay k)) refl
+taken l e (suc d) k = taken_one l (last_relay k) (relays_by d (above k)) (omega arith) (taken (set l (last_relay k) false) (length-set l (last_relay k) false ∙ e) d (above k)) (may l (last_relay k)) refl
 
 -- and then the others are left
 others : (l : List Bool) → length l ≡ 10 → (d k : ℕ) → (take_out l (relays_by d k)).yields ≡ true → (i : ℕ) → i < 10 → may (take_out l (relays_by d k)).leaves i ≡ (may l i && none_of i (relays_by d k))
 unfolding take_out relays_by none_of all
 others l e zero k y i h = sym (and-true (may l i))
-others l e (suc d) k y i h = others-one l (last_relay k) (relays_by d (above k)) i (omega arith) (λ z. others (set l (last_relay k) false) (length-set l (last_relay k) false ∙ e) d (above k) z i h) y (may l (last_relay k)) refl
+others l e (suc d) k y i h = others_one l (last_relay k) (relays_by d (above k)) i (omega arith) (λ z. others (set l (last_relay k) false) (length-set l (last_relay k) false ∙ e) d (above k) z i h) y (may l (last_relay k)) refl
 
 long : (l : List Bool) (qs : List ℕ) → length (take_out l qs).leaves ≡ length l
 unfolding take_out
 long l [] = refl
-long l (q ∷ qs) = long-one l q qs (long (set l q false) qs ∙ length-set l q false) (may l q) refl
+long l (q ∷ qs) = long_one l q qs (long (set l q false) qs ∙ length-set l q false) (may l q) refl
 
 -- ---- the walk so far has come to k
 
@@ -140,11 +140,11 @@ module _ {members₀ : List Bool} {slot : ℕ} {members : List Bool} {k : ℕ} (
   pub take_more : 0 < k → may members (last_relay k) ≡ true → Taking members₀ slot (set members (last_relay k) false) (above k)
   take_more p t = record {
     inside = omega (arith, c.inside);
-    same = sym (ap (take_out members) (relays-cons k c.inside p) ∙ found-one members (last_relay k) (relays (above k)) t) ∙ c.same;
+    same = sym (ap (take_out members) (relays_cons k c.inside p) ∙ found_one members (last_relay k) (relays (above k)) t) ∙ c.same;
   }
 
-  pub take-gone : 0 < k → may members (last_relay k) ≡ false → outcome false members ≡ take_out members₀ (relays slot)
-  take-gone p t = sym (ap (take_out members) (relays-cons k c.inside p) ∙ found_none members (last_relay k) (relays (above k)) t) ∙ c.same
+  pub take_gone : 0 < k → may members (last_relay k) ≡ false → outcome false members ≡ take_out members₀ (relays slot)
+  take_gone p t = sym (ap (take_out members) (relays_cons k c.inside p) ∙ found_none members (last_relay k) (relays (above k)) t) ∙ c.same
 
   pub take_done : k ≤ 0 → outcome true members ≡ take_out members₀ (relays slot)
   take_done h = let e : k ≡ 0 = omega arith in sym (ap (λ (j : ℕ). take_out members (relays j)) e ∙ none_out) ∙ c.same
@@ -170,32 +170,32 @@ module _ (s : Settings) where
   -- those that may relay are the members of slot 0
   pub first-members : table 10 0 (may_relay s) ≡ members_of s 0
   unfolding lengthens
-  first-members = is-table 10 _ false _ (length-table 10 0 (may_relay s)) (λ q h. first-may q h ∙ sym (and-true (may_relay s q)) ∙ ap (λ (b : Bool). may_relay s q && b) (sym (none-zero q 0 (omega arith))))
+  first-members = is_table 10 _ false _ (length-table 10 0 (may_relay s)) (λ q h. first-may q h ∙ sym (and-true (may_relay s q)) ∙ ap (λ (b : Bool). may_relay s q && b) (sym (none_zero q 0 (omega arith))))
 
 -- ---- whether a path is live, test by test
 
 module _ (s : Settings) (members : List Bool) (k : ℕ) where
-  pub in-zero : k ≡ 0 → outcome true members ≡ live_in s members k
+  pub in_zero : k ≡ 0 → outcome true members ≡ live_in s members k
   unfolding live_in opens take_out relays_by level
-  in-zero e = rw e
+  in_zero e = rw e
 
   module _ (n : k ≡ 0 → ⊥) where
-    pub in-own : s.p ≡ s.t → outcome false members ≡ live_in s members k
+    pub in_own : s.p ≡ s.t → outcome false members ≡ live_in s members k
     unfolding live_in opens
-    in-own e = rw (ne_eqb k 0 n, eq-eqb s.p s.t e)
+    in_own e = rw (ne_eqb k 0 n, eq-eqb s.p s.t e)
 
-    pub in-none : (s.p ≡ s.t → ⊥) → 1111 ≤ k → outcome false members ≡ live_in s members k
+    pub in_none : (s.p ≡ s.t → ⊥) → 1111 ≤ k → outcome false members ≡ live_in s members k
     unfolding live_in opens
-    in-none o h = rw (ne_eqb k 0 n, ne_eqb s.p s.t o, le-ltb k 1111 h)
+    in_none o h = rw (ne_eqb k 0 n, ne_eqb s.p s.t o, le-ltb k 1111 h)
 
     module _ (o : s.p ≡ s.t → ⊥) (h : k < 1111) where
-      pub in-deep : s.rack.m < level k → outcome false members ≡ live_in s members k
+      pub in_deep : s.rack.m < level k → outcome false members ≡ live_in s members k
       unfolding live_in opens
-      in-deep d = rw (ne_eqb k 0 n, ne_eqb s.p s.t o, lt-ltb k 1111 h, lt-leb (level k) s.rack.m d)
+      in_deep d = rw (ne_eqb k 0 n, ne_eqb s.p s.t o, lt-ltb k 1111 h, lt-leb (level k) s.rack.m d)
 
-      pub in-slot : level k ≤ s.rack.m → take_out members (relays k) ≡ live_in s members k
+      pub in_slot : level k ≤ s.rack.m → take_out members (relays k) ≡ live_in s members k
       unfolding live_in opens
-      in-slot d = rw (ne_eqb k 0 n, ne_eqb s.p s.t o, lt-ltb k 1111 h, le-leb (level k) s.rack.m d)
+      in_slot d = rw (ne_eqb k 0 n, ne_eqb s.p s.t o, lt-ltb k 1111 h, le-leb (level k) s.rack.m d)
 
 -- ---- from the cards that may relay: it is `live`, and what is left are the members of the path
 
@@ -216,22 +216,22 @@ module _ (s : Settings) (k : ℕ) where
   apart false true false a d = refl
   apart false false e a d = refl
 
-  given-tells : Dec (k ≡ 0) → (live_in s given k).yields ≡ live s k
-  given-tells (yes e) = ap (λ (o : Outcome Bool (List Bool)). o.yields) (sym (in-zero s given k e)) ∙ sym (ap (live s) e ∙ T-eq (live s 0) (live-zero s))
-  given-tells (no n) = unfold live_in opens live in (given-yields (opens s k) ∙ rw (ne_eqb k 0 n) (apart (not (eqb s.p s.t)) (ltb k 1111) (leb (level k) s.rack.m) (all (may_relay s) (relays k)) (different (relays k))))
+  given_tells : Dec (k ≡ 0) → (live_in s given k).yields ≡ live s k
+  given_tells (yes e) = ap (λ (o : Outcome Bool (List Bool)). o.yields) (sym (in_zero s given k e)) ∙ sym (ap (live s) e ∙ T_eq (live s 0) (live_zero s))
+  given_tells (no n) = unfold live_in opens live in (given-yields (opens s k) ∙ rw (ne_eqb k 0 n) (apart (not (eqb s.p s.t)) (ltb k 1111) (leb (level k) s.rack.m) (all (may_relay s) (relays k)) (different (relays k))))
 
   given-members : (b : Bool) → (cond b (take_out given (relays k)) (outcome false given)).yields ≡ true → (cond b (take_out given (relays k)) (outcome false given)).leaves ≡ members_of s k
   unfolding lengthens
   given-members true y =
-      is-table 10 _ false _ (long given (relays k) ∙ length-table 10 0 (may_relay s))
+      is_table 10 _ false _ (long given (relays k) ∙ length-table 10 0 (may_relay s))
       (λ q g. others given (length-table 10 0 (may_relay s)) (level k) k y q g ∙ ap (λ (b : Bool). b && none_of q (relays k)) (first-may s q g))
   given-members false y = never y
 
   module _ {members left : List Bool} {found : Bool} (m : members ≡ table 10 0 (may_relay s)) (h : outcome found left ≡ live_in s members k) where
-    pub in-tells : found ≡ live s k
-    in-tells = ap (λ (o : Outcome Bool (List Bool)). o.yields) h ∙ ap (λ (l : List Bool). (live_in s l k).yields) m ∙ given-tells (ℕ_discrete k 0)
+    pub in_tells : found ≡ live s k
+    in_tells = ap (λ (o : Outcome Bool (List Bool)). o.yields) h ∙ ap (λ (l : List Bool). (live_in s l k).yields) m ∙ given_tells (ℕ_discrete k 0)
 
     pub in_members : T (live s k) → left ≡ members_of s k
     in_members t =
         ap (λ (o : Outcome Bool (List Bool)). o.leaves) h ∙ ap (λ (l : List Bool). (live_in s l k).leaves) m
-        ∙ unfold live_in in (given-members (opens s k) (given-tells (ℕ_discrete k 0) ∙ T-eq (live s k) t))
+        ∙ unfold live_in in (given-members (opens s k) (given_tells (ℕ_discrete k 0) ∙ T_eq (live s k) t))

@@ -5,17 +5,17 @@ use lib.IntN.{ℤ}
 use Rattle.ground.specs.Answer.{Outcome, outcome}
 use Rattle.ground.specs.Fixes.{Fixes}
 use Rattle.ground.specs.declared.Done.{Done}
-use Rattle.ground.proofs.Answers.{outcome-apart}
+use Rattle.ground.proofs.Answers.{outcome_apart}
 use Rattle.book.specs.Book.{Book}
 use Rattle.book.proofs.Halves.{part_apart}
 use Rattle.refilling.proofs.refill.Kinds as refill
-use Rattle.refilling.proofs.refill.Reads as refill-says
-use Rattle.refilling.proofs.refill_part.Kinds as refill-part
-use Rattle.refilling.proofs.refill_part.Reads as refill-part-says
+use Rattle.refilling.proofs.refill.Reads as refill_says
+use Rattle.refilling.proofs.refill_part.Kinds as refill_part
+use Rattle.refilling.proofs.refill_part.Reads as refill_part_says
 
 -- the words are lent to be read only, and stay by their type
-pub refill-fixed : Fixes 2 refill.ps refill.r refill-says.Post (Outcome Done (List ℤ)) (λ κs x s. outcome x s.1.1.0.now)
-refill-fixed κs a x y s t p q = ap (λ (o : Outcome Done Book). outcome o.yields o.leaves.votes) (outcome-apart x y (p ∙ sym q))
+pub refill_fixed : Fixes 2 refill.ps refill.r refill_says.Post (Outcome Done (List ℤ)) (λ κs x s. outcome x s.1.1.0.now)
+refill_fixed κs a x y s t p q = ap (λ (o : Outcome Done Book). outcome o.yields o.leaves.votes) (outcome_apart x y (p ∙ sym q))
 
-pub refill-part-fixed : Fixes 1 refill-part.ps refill-part.r refill-part-says.Post (Outcome Done (List ℤ)) (λ κs x s. outcome x s.1.0.now)
-refill-part-fixed κs a x y s t p q = part_apart x y (p ∙ sym q)
+pub refill_part_fixed : Fixes 1 refill_part.ps refill_part.r refill_part_says.Post (Outcome Done (List ℤ)) (λ κs x s. outcome x s.1.0.now)
+refill_part_fixed κs a x y s t p q = part_apart x y (p ∙ sym q)

@@ -21,7 +21,7 @@ use Rattle.paths.proofs.Live.{live-slot}
 use Rattle.paths.proofs.Walk.{put_is}
 use Rattle.vote.specs.Vote.{vote}
 use Rattle.vote.specs.Members.{member_vote}
-use Rattle.vote.proofs.Handed.{handed-vote, own-vote}
+use Rattle.vote.proofs.Handed.{handed_vote, own-vote}
 use Rattle.book.specs.Book.{Book, book_of, Sized}
 use Rattle.book.specs.Asked.{book_checks}
 use Rattle.book.proofs.Asking.{book-asked}
@@ -36,8 +36,8 @@ module _ (R : Rule) (s : Settings) (ws vs : List ℤ) where
   refilled-at k h = at_table slots 0 _ k (pos 0) h ∙ ap (λ (k : ℕ). cond (live s k) (vote R s ws k) (at vs k)) (omega arith)
 
   -- every live vote is the vote from the words, whatever the votes were
-  pub refilled-agrees : (k : ℕ) → T (live s k) → at (refilled_votes R s ws vs) k ≡ vote R s ws k
-  refilled-agrees k t = refilled-at k (live-slot s k t) ∙ cond_yes (live s k) _ _ t
+  pub refilled_agrees : (k : ℕ) → T (live s k) → at (refilled_votes R s ws vs) k ≡ vote R s ws k
+  refilled_agrees k t = refilled-at k (live-slot s k t) ∙ cond_yes (live s k) _ _ t
 
   refilled-long : length (refilled_votes R s ws vs) ≡ slots
   unfolding refilled_votes
@@ -55,10 +55,10 @@ module _ (R : Rule) (s : Settings) (ws vs : List ℤ) where
 
   -- ---- refilling as the code does it
 
-  pub put-votes : s.rack.m ≤ 3 → length vs ≡ slots → put_in (member_vote R ws) (members_of s 0) (rounds_left s 0) 0 0 vs ≡ refilled_votes R s ws vs
+  pub put_votes : s.rack.m ≤ 3 → length vs ≡ slots → put_in (member_vote R ws) (members_of s 0) (rounds_left s 0) 0 0 vs ≡ refilled_votes R s ws vs
   unfolding refilled_votes level
-  put-votes few long =
-      put_is s (member_vote R ws) (vote R s ws) vs few long (λ o. handed-vote R s ws o few) (λ e. sym (own-vote R s ws 0 (members_of s 0) e))
+  put_votes few long =
+      put_is s (member_vote R ws) (vote R s ws) vs few long (λ o. handed_vote R s ws o few) (λ e. sym (own-vote R s ws 0 (members_of s 0) e))
 
 -- what no verdict on a call tells
 pub refill-asked : (s : Settings) (b : Book) → verdict (book_checks s b) ≡ 0 → Refills s b

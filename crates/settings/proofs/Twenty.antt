@@ -16,9 +16,9 @@ use Rattle.settings.specs.declared.Rack.{Rack}
 abbrev pub ten : List Bool
 ten = true ∷ true ∷ true ∷ true ∷ true ∷ true ∷ true ∷ true ∷ true ∷ true ∷ false ∷ false ∷ false ∷ false ∷ false ∷ false ∷ false ∷ false ∷ false ∷ false ∷ []
 
-pub fitted-at : (rack : Rack) (q from : ℕ) → from ≡ 10 - rack.n → q < 10 → get_or ten (from + q) false ≡ fits rack q
+pub fitted_at : (rack : Rack) (q from : ℕ) → from ≡ 10 - rack.n → q < 10 → get_or ten (from + q) false ≡ fits rack q
 unfolding fits
-fitted-at rack q from e h = (ap (λ (l : List Bool). get_or l (from + q) false) all ∙ at_table 20 0 (λ i. ltb i 10) (from + q) false (omega arith)) ∙ go (ltb q rack.n) refl
+fitted_at rack q from e h = (ap (λ (l : List Bool). get_or l (from + q) false) all ∙ at_table 20 0 (λ i. ltb i 10) (from + q) false (omega arith)) ∙ go (ltb q rack.n) refl
   where
     all : ten ≡ table 20 0 (λ i. ltb i 10)
     all = unfold table in refl

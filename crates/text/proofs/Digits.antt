@@ -28,10 +28,10 @@ unfolding digits_of
 enough zero n h = rw (lt-ltb n 10 (omega arith))
 enough (suc k) n h = ap (λ (ds : List ℕ). cond (ltb n 10) [] ds ++ (last n ∷ [])) (enough k (n / 10) (omega (arith, pow-succ' 10 (suc k))))
 
-pub one-digit : (k : ℕ) {n : ℕ} → n < 10 → digits_of (suc k) n ≡ last n ∷ []
+pub one_digit : (k : ℕ) {n : ℕ} → n < 10 → digits_of (suc k) n ≡ last n ∷ []
 unfolding digits_of
-one-digit k {n} h = rw (lt-ltb n 10 h)
+one_digit k {n} h = rw (lt-ltb n 10 h)
 
-pub more-digits : (k : ℕ) {n : ℕ} → 10 ≤ n → n < 10 ^ suc (suc k) → digits_of (suc (suc k)) n ≡ digits_of (suc (suc k)) (n / 10) ++ (last n ∷ [])
+pub more_digits : (k : ℕ) {n : ℕ} → 10 ≤ n → n < 10 ^ suc (suc k) → digits_of (suc (suc k)) n ≡ digits_of (suc (suc k)) (n / 10) ++ (last n ∷ [])
 unfolding digits_of
-more-digits k {n} h f = rw (le-ltb n 10 h) (ap (λ (ds : List ℕ). ds ++ (last n ∷ [])) (sym (enough k (n / 10) (omega (arith, pow-succ' 10 (suc k))))))
+more_digits k {n} h f = rw (le-ltb n 10 h) (ap (λ (ds : List ℕ). ds ++ (last n ∷ [])) (sym (enough k (n / 10) (omega (arith, pow-succ' 10 (suc k))))))

@@ -4,7 +4,7 @@ use mathlib.Core.Path.{sym, ◌∙◌}
 use mathlib.Core.List.{List}
 use Rattle.ground.specs.Fixes.{Fixes}
 use Rattle.text.proofs.decimal.Kinds as decimal
-use Rattle.text.proofs.decimal.Reads as decimal-says
+use Rattle.text.proofs.decimal.Reads as decimal_says
 
-pub decimal-fixed : Fixes 1 decimal.ps decimal.r decimal-says.Post (ℕ × List ℕ) (λ κs x s. (x, s.1.0.now))
-decimal-fixed κs a x y s t p q = λ i. ((p.0 ∙ sym q.0) i, (p.1 ∙ sym q.1) i)
+pub decimal_fixed : Fixes 1 decimal.ps decimal.r decimal_says.Post (ℕ × List ℕ) (λ κs x s. (x, s.1.0.now))
+decimal_fixed κs a x y s t p q = λ i. ((p.0 ∙ sym q.0) i, (p.1 ∙ sym q.1) i)

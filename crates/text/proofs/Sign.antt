@@ -34,14 +34,14 @@ pub record Minus (x : ℤ) : Type 0 where
   pub add : Fits w32 (nat_abs (back (under x)) + 1)
   pub text : decimal_of x ≡ 45 ∷ digits_of 10 (nat_abs (back (under x)) + 1)
 
-under-neg : (n : ℕ) → negsuc 0 -ℤ negsuc n ≡ pos n
-under-neg n = simp (le-ltb (suc n) 1 (omega arith)) (ap pos (omega arith))
+under_neg : (n : ℕ) → negsuc 0 -ℤ negsuc n ≡ pos n
+under_neg n = simp (le-ltb (suc n) 1 (omega arith)) (ap pos (omega arith))
 
 pub minus : (x : ℤ) → SFits w32 x → le_z (pos 0) (back x) ≡ false → Minus x
 unfolding decimal_of
 minus (pos n) f h = absurd (true≢false (sym (leb-zero n) ∙ rw (back_is f) at h))
 minus (negsuc n) f h =
-    let u : under (negsuc n) ≡ pos n = rw (back_is f) (under-neg n) in
+    let u : under (negsuc n) ≡ pos n = rw (back_is f) (under_neg n) in
     let e : back (under (negsuc n)) ≡ pos n = ap back u ∙ to_z_pos w32 n f.sfits in
     record {
       sub = rw u (record { sfits = f.sfits });

@@ -8,7 +8,7 @@ use lib.IntN.{ℤ}
 use lib.ListN.{length, set, drop, length-append, length-set}
 use lib.Seq.{sets, length-sets, sets-eq}
 use Rattle.text.specs.Decimal.{digits_of, decimal_of}
-use Rattle.text.proofs.Digits.{last, one-digit, more-digits}
+use Rattle.text.proofs.Digits.{last, one_digit, more_digits}
 use Rattle.text.proofs.Laws.{length-text}
 
 -- one text after another
@@ -24,11 +24,11 @@ pub record Begun (l : List ℕ) (i n next : ℕ) (out : List ℕ) : Type 0 where
   pub holds : out ≡ sets l i front
 
 module _ {l : List ℕ} {i n next : ℕ} {out : List ℕ} where
-  pub begun-none : n < 10 → next ≡ i → out ≡ l → Begun l i n next out
-  begun-none h p q = record { front = []; digits = one-digit 9 h; place = omega arith; holds = q }
+  pub begun_none : n < 10 → next ≡ i → out ≡ l → Begun l i n next out
+  begun_none h p q = record { front = []; digits = one_digit 9 h; place = omega arith; holds = q }
 
-  pub begun-some : 10 ≤ n → n < 2 ^ 32 → next ≡ i + length (digits_of 10 (n / 10)) → out ≡ sets l i (digits_of 10 (n / 10)) → Begun l i n next out
-  begun-some h f p q = record { front = digits_of 10 (n / 10); digits = more-digits 8 h (omega arith); place = p; holds = q }
+  pub begun_some : 10 ≤ n → n < 2 ^ 32 → next ≡ i + length (digits_of 10 (n / 10)) → out ≡ sets l i (digits_of 10 (n / 10)) → Begun l i n next out
+  begun_some h f p q = record { front = digits_of 10 (n / 10); digits = more_digits 8 h (omega arith); place = p; holds = q }
 
   module _ (b : Begun l i n next out) where
     pub inside : i + length (digits_of 10 n) ≤ length l → next < length out

@@ -4,7 +4,7 @@ use mathlib.Core.Path.{sym, ◌∙◌}
 use mathlib.Core.List.{List}
 use Rattle.ground.specs.Fixes.{Fixes}
 use Rattle.trials.proofs.list.Kinds as list
-use Rattle.trials.proofs.list.Reads as list-says
+use Rattle.trials.proofs.list.Reads as list_says
 
-pub list-fixed : Fixes 2 list.ps list.r list-says.Post (ℕ × List ℕ) (λ κs x s. (x, s.1.0.now))
-list-fixed κs a x y s t p q = λ i. ((p.0 ∙ sym q.0) i, (p.1 ∙ sym q.1) i)
+pub list_fixed : Fixes 2 list.ps list.r list_says.Post (ℕ × List ℕ) (λ κs x s. (x, s.1.0.now))
+list_fixed κs a x y s t p q = λ i. ((p.0 ∙ sym q.0) i, (p.1 ∙ sym q.1) i)

@@ -14,7 +14,7 @@ use mir.Val.{of_z, SFits}
 use Rattle.ground.proofs.Bools.{cond-case, cond_same}
 use Rattle.words.specs.Word.{E}
 use Rattle.words.specs.Majority.{same}
-use Rattle.words.proofs.Same.{bits-same, same-sym}
+use Rattle.words.proofs.Same.{bits_same, same_sym}
 use Rattle.text.specs.Decimal.{decimal_of}
 use Rattle.text.proofs.Laws.{length-text}
 use Rattle.trials.specs.Listing.{ending, answer_text, line_of, lines, bound_line}
@@ -23,15 +23,15 @@ use Rattle.trials.specs.Listing.{ending, answer_text, line_of, lines, bound_line
 
 module _ {w : ℤ} (f : SFits w32 w) where
   tested : {b : Bool} → same w E ≡ b → same E w ≡ b
-  tested e = same-sym E w ∙ e
+  tested e = same_sym E w ∙ e
 
   pub missing-text : of_z w32 w ≡ 1000000000 → 45 ∷ [] ≡ answer_text w
   unfolding answer_text
-  missing-text e = rw (tested (sym (bits-same {y = E} f (record { sfits = lit< tt })) ∙ eq-eqb _ _ e))
+  missing-text e = rw (tested (sym (bits_same {y = E} f (record { sfits = lit< tt })) ∙ eq-eqb _ _ e))
 
   pub word-text : (of_z w32 w ≡ 1000000000 → ⊥) → decimal_of w ≡ answer_text w
   unfolding answer_text
-  word-text n = rw (tested (sym (bits-same {y = E} f (record { sfits = lit< tt })) ∙ ne_eqb _ _ n))
+  word-text n = rw (tested (sym (bits_same {y = E} f (record { sfits = lit< tt })) ∙ ne_eqb _ _ n))
 
 -- ---- lengths
 
@@ -39,14 +39,14 @@ pub length-answer : (w : ℤ) → length (answer_text w) ≤ 11
 unfolding answer_text
 length-answer w = cond-case (λ (l : List ℕ). length l ≤ 11) (same E w) _ _ (λ t. omega arith) (λ t. (length-text w).1)
 
-pub length-line : (p status : ℕ) (w : ℤ) → length (line_of p status w) ≤ 16
+pub length_line : (p status : ℕ) (w : ℤ) → length (line_of p status w) ≤ 16
 unfolding line_of
-length-line p status w = rw (length-append (answer_text w) ending) (omega (arith, length-answer w))
+length_line p status w = rw (length-append (answer_text w) ending) (omega (arith, length-answer w))
 
-pub length-bound : (b : Bool) → length (bound_line b) ≤ 15
+pub length_bound : (b : Bool) → length (bound_line b) ≤ 15
 unfolding bound_line
-length-bound true = omega arith
-length-bound false = omega arith
+length_bound true = omega arith
+length_bound false = omega arith
 
 -- ---- a line to each card that passes
 
@@ -60,13 +60,13 @@ module _ (passes : ℕ → Bool) (line : ℕ → List ℕ) where
       rw (length-append (lines passes line c) (cond (passes c) (line c) [])) (omega arith)
 
   -- one card more
-  pub lines-yes : (c : ℕ) → passes c ≡ true → lines passes line c ++ line c ≡ lines passes line (c + 1)
+  pub lines_yes : (c : ℕ) → passes c ≡ true → lines passes line c ++ line c ≡ lines passes line (c + 1)
   unfolding lines
-  lines-yes c e = rw (add-one, e)
+  lines_yes c e = rw (add-one, e)
 
-  pub lines-no : (c : ℕ) → passes c ≡ false → lines passes line c ≡ lines passes line (c + 1)
+  pub lines_no : (c : ℕ) → passes c ≡ false → lines passes line c ≡ lines passes line (c + 1)
   unfolding lines
-  lines-no c e = rw (add-one, e) (sym (append-nil (lines passes line c)))
+  lines_no c e = rw (add-one, e) (sym (append-nil (lines passes line c)))
 
   -- lines that are the same for each card that passes
   pub lines_same : (other : ℕ → List ℕ) (c : ℕ) → ((p : ℕ) → p < c → T (passes p) → line p ≡ other p) → lines passes line c ≡ lines passes other c

@@ -11,7 +11,7 @@ use lib.Seq.{get_or-take, length-take-le}
 use Rattle.ground.specs.Refusal as refusal
 use Rattle.ground.specs.Checks.{Check, check, verdict}
 use Rattle.ground.specs.Bytes.{byte, starts, be16}
-use Rattle.ground.proofs.Verdicts.{no-verdict, still-refused}
+use Rattle.ground.proofs.Verdicts.{no_verdict, still_refused}
 use Rattle.files.specs.File.{mark, version, exceptions, shape_checks}
 use Rattle.trials.specs.Listing.{refused_line, text_of}
 use Rattle.trials.proofs.Text.{refused-text}
@@ -26,13 +26,13 @@ long_checks file =
     ∷ []
 
 -- one of them applies
-some-long : (file : List ℕ) → verdict (long_checks file) ≡ 0 → ⊥
-some-long file e = true≢false (no-verdict (long_checks file) tt e).1.1.1.0
+some_long : (file : List ℕ) → verdict (long_checks file) ≡ 0 → ⊥
+some_long file e = true≢false (no_verdict (long_checks file) tt e).1.1.1.0
 
 -- the last check decides only where there are at most 64 exceptions
-long-shape : (file : List ℕ) → 473 ≤ length file → verdict (long_checks file) ≡ verdict (shape_checks file)
+long_shape : (file : List ℕ) → 473 ≤ length file → verdict (long_checks file) ≡ verdict (shape_checks file)
 unfolding verdict
-long-shape file h =
+long_shape file h =
     rw (le-ltb (length file) 24 (omega arith))
     (ap (λ (v : ℕ). cond (not (starts file mark)) refusal.mark (cond (not (eqb (be16 file 3) version)) refusal.version v)) (go (ltb 64 (exceptions file)) refl))
   where
@@ -41,7 +41,7 @@ long-shape file h =
     go false e = rw (ne_eqb (length file) (24 + 7 * exceptions file) (λ q. omega (arith, ltb-false 64 (exceptions file) e)))
 
 refused-long : (file : List ℕ) → 473 ≤ length file → refused_line (verdict (long_checks file)) ≡ text_of file
-refused-long file h = refused-text file (still-refused (shape_checks file) _ tt (long-shape file h) (some-long file)) (some-long file)
+refused-long file h = refused-text file (still_refused (shape_checks file) _ tt (long_shape file h) (some_long file)) (some_long file)
 
 module _ (file : List ℕ) (h : 473 ≤ length file) where
   same_byte : (k : ℕ) → k < 473 → byte (take 473 file) k ≡ byte file k
@@ -51,14 +51,14 @@ module _ (file : List ℕ) (h : 473 ≤ length file) where
   unfolding be16
   same_number k g = rw (same_byte k (omega arith), same_byte (k + 1) g)
 
-  cut-long : length (take 473 file) ≡ 473
-  cut-long = length-take-le 473 file h
+  cut_long : length (take 473 file) ≡ 473
+  cut_long = length-take-le 473 file h
 
   same-starts : starts (take 473 file) mark ≡ starts file mark
   unfolding starts
-  same-starts = rw (same_byte 0 (omega arith), same_byte 1 (omega arith), same_byte 2 (omega arith), cut-long, le-leb 3 (length file) (omega arith))
+  same-starts = rw (same_byte 0 (omega arith), same_byte 1 (omega arith), same_byte 2 (omega arith), cut_long, le-leb 3 (length file) (omega arith))
 
   pub long-text : text_of (take 473 file) ≡ text_of file
   long-text =
-      sym (refused-long (take 473 file) (omega (arith, cut-long)))
+      sym (refused-long (take 473 file) (omega (arith, cut_long)))
       ∙ rw (same-starts, same_number 3 (omega arith), same_number 22 (omega arith)) (refused-long file h)

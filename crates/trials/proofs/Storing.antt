@@ -33,14 +33,14 @@ moved e f a = rw (e, f) a
 
 -- a list that begins with the text of x, by its contract
 module _ {X : Type 0} (text : X → List ℕ) (x : X) (made before : List ℕ) {many : ℕ} (e : many ≡ length (text x)) (h : made ≡ text x ++ drop (length (text x)) before) where
-  pub text-is : take many made ≡ text x
-  text-is = rw (h, e) (take_at (text x) _ (length (text x)) refl)
+  pub text_is : take many made ≡ text x
+  text_is = rw (h, e) (take_at (text x) _ (length (text x)) refl)
 
-  pub text-inside : many ≤ length made
-  text-inside = omega (arith, ap length h, length-append (text x) (drop (length (text x)) before))
+  pub text_inside : many ≤ length made
+  text_inside = omega (arith, ap length h, length-append (text x) (drop (length (text x)) before))
 
   pub text-long : many ≡ length (take many made)
-  text-long = sym (ap length text-is ∙ sym e)
+  text-long = sym (ap length text_is ∙ sym e)
 
 -- one byte more of a piece
 pub next : (piece l : List ℕ) (at i : ℕ) {m : List ℕ} → i < length piece → m ≡ sets l at (take i piece) → set m (at + i) (get_or piece i 0) ≡ sets l at (take (i + 1) piece)

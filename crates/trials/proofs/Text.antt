@@ -25,15 +25,15 @@ use Rattle.bench.specs.Asked.{answers_of}
 use Rattle.files.specs.File.{turn_in, statuses, exchange_of, file_checks}
 use Rattle.trials.specs.Listing.{ending, line_of, lines, bound_line, refused_line, card_line, listed, printed, text_of}
 use Rattle.trials.specs.Storing.{Stored}
-use Rattle.trials.proofs.Lines.{length-line, length-bound, length-lines, lines_same}
+use Rattle.trials.proofs.Lines.{length_line, length_bound, length-lines, lines_same}
 
 module _ (file : List ℕ) where
   -- ---- the lines of the cards
 
   module _ (before : List ℤ) {list : List ℤ} (e : list ≡ answers_of (rule_of (turn_in file).rack) (exchange_of file) before) where
-    pub ten-answers : length list ≡ 10
+    pub ten_answers : length list ≡ 10
     unfolding answers_of
-    ten-answers = ap length e ∙ length-table 10 0 _
+    ten_answers = ap length e ∙ length-table 10 0 _
 
     answer_at : (p : ℕ) → p < 10 → T (fits (turn_in file).rack p) → at list p ≡ answer_of (rule_of (turn_in file).rack) (exchange_of file) p
     unfolding answers_of
@@ -43,17 +43,17 @@ module _ (file : List ℕ) where
     card-lines q = rw q (lines_same _ _ (card_line file) 10 (λ p h t. ap (line_of p (get_or (statuses file) p 0)) (answer_at p h t)))
 
   pub length-cards : length (lines (fits (turn_in file).rack) (card_line file) 10) ≤ 160
-  length-cards = length-lines (fits (turn_in file).rack) (card_line file) (λ p. length-line p _ _) 10
+  length-cards = length-lines (fits (turn_in file).rack) (card_line file) (λ p. length_line p _ _) 10
 
   -- by the bound's answer
-  pub listed-as : {held : Bool} → held ≡ bounded (turn_in file).rack (statuses_of (statuses file)) → lines (fits (turn_in file).rack) (card_line file) most_cards ++ bound_line held ≡ listed file
-  listed-as e = rw e
+  pub listed_as : {held : Bool} → held ≡ bounded (turn_in file).rack (statuses_of (statuses file)) → lines (fits (turn_in file).rack) (card_line file) most_cards ++ bound_line held ≡ listed file
+  listed_as e = rw e
 
   pub length-listed : length (listed file) ≤ 175
   length-listed =
       let cards = lines (fits (turn_in file).rack) (card_line file) 10 in
       let held = bounded (turn_in file).rack (statuses_of (statuses file)) in
-      omega (arith, length-append cards (bound_line held), length-cards, length-bound held)
+      omega (arith, length-append cards (bound_line held), length-cards, length_bound held)
 
   -- ---- the text
 

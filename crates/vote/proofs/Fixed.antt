@@ -2,14 +2,14 @@
 use mathlib.Core.Path.{sym, ◌∙◌}
 use Rattle.ground.specs.Fixes.{Fixes}
 use Rattle.ground.specs.declared.Told.{Told}
-use Rattle.ground.proofs.Answers.{told-apart}
-use Rattle.vote.proofs.vote_at.Kinds as vote-at
-use Rattle.vote.proofs.vote_at.Reads as vote-at-says
+use Rattle.ground.proofs.Answers.{told_apart}
+use Rattle.vote.proofs.vote_at.Kinds as vote_at
+use Rattle.vote.proofs.vote_at.Reads as vote_at_says
 use Rattle.vote.proofs.answer.Kinds as answer
-use Rattle.vote.proofs.answer.Reads as answer-says
+use Rattle.vote.proofs.answer.Reads as answer_says
 
-pub vote-at-fixed : Fixes 1 vote-at.ps vote-at.r vote-at-says.Post Told (λ κs x s. x)
-vote-at-fixed κs a x y s t p q = told-apart x y (p ∙ sym q)
+pub vote_at_fixed : Fixes 1 vote_at.ps vote_at.r vote_at_says.Post Told (λ κs x s. x)
+vote_at_fixed κs a x y s t p q = told_apart x y (p ∙ sym q)
 
-pub answer-fixed : Fixes 1 answer.ps answer.r answer-says.Post Told (λ κs x s. x)
-answer-fixed κs a x y s t p q = told-apart x y (p ∙ sym q)
+pub answer_fixed : Fixes 1 answer.ps answer.r answer_says.Post Told (λ κs x s. x)
+answer_fixed κs a x y s t p q = told_apart x y (p ∙ sym q)

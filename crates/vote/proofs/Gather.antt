@@ -13,7 +13,7 @@ use Rattle.words.specs.Rule.{Rule, majority_by}
 use Rattle.words.specs.Counted.{majority_of}
 use Rattle.words.proofs.Search.{kept_append, found_left}
 use Rattle.ground.specs.Lists.{at, over}
-use Rattle.ground.proofs.Lists.{over-snoc}
+use Rattle.ground.proofs.Lists.{over_snoc}
 use Rattle.vote.specs.Vote.{decided}
 use Rattle.vote.specs.Members.{member_vote, members_votes}
 
@@ -31,10 +31,10 @@ weighs true e = omega arith
 weighs false e = omega arith
 
 -- the own report alone
-pub report-first : (s : ℤ → Bool) (p : ℕ → Bool) (f : ℕ → ℤ) (reports : List ℤ) {count : ℕ} → length reports ≡ 11 → count ≡ cond (s (at reports 0)) 0 1 → Reporting s p f (at reports 0) 0 reports count
+pub report_first : (s : ℤ → Bool) (p : ℕ → Bool) (f : ℕ → ℤ) (reports : List ℤ) {count : ℕ} → length reports ≡ 11 → count ≡ cond (s (at reports 0)) 0 1 → Reporting s p f (at reports 0) 0 reports count
 unfolding over kept
-report-first s p f [] e w = absurd (omega arith)
-report-first s p f (x ∷ xs) {count} e w = go (s x) refl
+report_first s p f [] e w = absurd (omega arith)
+report_first s p f (x ∷ xs) {count} e w = go (s x) refl
   where
     go : (b : Bool) → s x ≡ b → Reporting s p f x 0 (x ∷ xs) count
     go true t = rw (w, t) (record { upto = omega arith; few = omega arith; long = e; so_far = rw t })
@@ -49,15 +49,15 @@ module _ {s : ℤ → Bool} {p : ℕ → Bool} {f : ℕ → ℤ} {own : ℤ} {q 
   grown = ap (λ (l : List ℤ). kept s (own ∷ l)) more ∙ kept_append s (own ∷ over p f q 0) (cond (p q) (f q ∷ []) [])
     where
       more : over p f (q + 1) 0 ≡ over p f q 0 ++ cond (p q) (f q ∷ []) []
-      more = rw add-one (over-snoc p f q 0 ∙ ap (λ (x : ℕ). over p f q 0 ++ cond (p x) (f x ∷ []) []) (omega arith))
+      more = rw add-one (over_snoc p f q 0 ∙ ap (λ (x : ℕ). over p f q 0 ++ cond (p x) (f x ∷ []) []) (omega arith))
 
   by_one : p q ≡ true → (b : Bool) → s (f q) ≡ b → kept s (own ∷ over p f (q + 1) 0) ≡ left ++ cond b [] (f q ∷ [])
   unfolding kept
   by_one t b e = grown ∙ rw (t, e)
 
-  by-none : p q ≡ false → kept s (own ∷ over p f (q + 1) 0) ≡ left
+  by_none : p q ≡ false → kept s (own ∷ over p f (q + 1) 0) ≡ left
   unfolding kept
-  by-none t = grown ∙ ap (λ (b : Bool). left ++ kept s (cond b (f q ∷ []) [])) t ∙ append-nil left
+  by_none t = grown ∙ ap (λ (b : Bool). left ++ kept s (cond b (f q ∷ []) [])) t ∙ append-nil left
 
   -- they fit the list
   pub inside : count ≤ length reports
@@ -65,8 +65,8 @@ module _ {s : ℤ → Bool} {p : ℕ → Bool} {f : ℕ → ℤ} {own : ℤ} {q 
 
   module _ (h : q < 10) {reports' : List ℤ} {count' : ℕ} where
     -- one report more, which counts if it is not struck, and none more
-    pub report-more : p q ≡ true → {v : ℤ} → v ≡ f q → reports' ≡ set reports count v → count' ≡ count + cond (s v) 0 1 → Reporting s p f own (q + 1) reports' count'
-    report-more t e a b = rw (a, b, e) (go (s (f q)) refl)
+    pub report_more : p q ≡ true → {v : ℤ} → v ≡ f q → reports' ≡ set reports count v → count' ≡ count + cond (s v) 0 1 → Reporting s p f own (q + 1) reports' count'
+    report_more t e a b = rw (a, b, e) (go (s (f q)) refl)
       where
         long : length (set reports count (f q)) ≡ 11
         long = length-set reports count _ ∙ r.long
@@ -90,8 +90,8 @@ module _ {s : ℤ → Bool} {p : ℕ → Bool} {f : ℕ → ℤ} {own : ℤ} {q 
               so_far = rw (add-one, take-suc-set reports count (f q) (omega (arith, r.long, r.few))) (ap (λ (l : List ℤ). l ++ (f q ∷ [])) r.so_far) ∙ sym longer;
             }
 
-    pub report-same : p q ≡ false → reports' ≡ reports → count' ≡ count → Reporting s p f own (q + 1) reports' count'
-    report-same t a b = rw (a, b) (record { upto = omega arith; few = omega (arith, r.few); long = r.long; so_far = r.so_far ∙ sym (by-none t) })
+    pub report_same : p q ≡ false → reports' ≡ reports → count' ≡ count → Reporting s p f own (q + 1) reports' count'
+    report_same t a b = rw (a, b) (record { upto = omega arith; few = omega (arith, r.few); long = r.long; so_far = r.so_far ∙ sym (by_none t) })
 
 -- ---- the vote's two cases
 
@@ -100,8 +100,8 @@ module _ (R : Rule) (words : List ℤ) (members : List Bool) (r d k : ℕ) where
   unfolding member_vote
   vote-last e = rw e
 
-  pub vote-more : (r ≡ 0 → ⊥) → member_vote R words members r d k ≡ decided R (R.read d (at words k)) (members_votes R words members (r - 1) d k 10)
-  vote-more n = go r n
+  pub vote_more : (r ≡ 0 → ⊥) → member_vote R words members r d k ≡ decided R (R.read d (at words k)) (members_votes R words members (r - 1) d k 10)
+  vote_more n = go r n
     where
       go : (r : ℕ) → (r ≡ 0 → ⊥) → member_vote R words members r d k ≡ decided R (R.read d (at words k)) (members_votes R words members (r - 1) d k 10)
       go zero n = absurd (n refl)

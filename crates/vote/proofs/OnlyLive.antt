@@ -10,7 +10,7 @@ use Rattle.ground.specs.Answer.{value, answer}
 use Rattle.ground.specs.Lists.{at}
 use Rattle.settings.specs.declared.Settings.{Settings}
 use Rattle.paths.specs.Slots.{live}
-use Rattle.paths.proofs.Live.{live-zero}
+use Rattle.paths.proofs.Live.{live_zero}
 use Rattle.vote.specs.Asked.{words_checks, vote_checks, vote_asked, answer_asked}
 use Rattle.vote.proofs.Asking.{vote-asked}
 use Rattle.vote.proofs.Votes.{vote-live}
@@ -32,5 +32,5 @@ module _ (s : Settings) (ws us : List ℤ) (long : length ws ≡ length us) (sam
   pub answer-asked-live : answer_asked s ws ≡ answer_asked s us
   unfolding answer_asked
   answer-asked-live =
-      same_answer (verdict (words_checks s ws)) _ _ (λ e. vote-live (rule_of s.rack) s ws us same 0 (live-zero s))
+      same_answer (verdict (words_checks s ws)) _ _ (λ e. vote-live (rule_of s.rack) s ws us same 0 (live_zero s))
       ∙ rw long

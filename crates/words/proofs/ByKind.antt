@@ -12,7 +12,7 @@ use mir.Val.{SFits}
 use Rattle.words.specs.Word.{kind_of, missing}
 use Rattle.words.specs.declared.Kind.{Kind}
 use Rattle.words.specs.declared.Kind.TheVariants.{Ordinary, Missing, Bad}
-use Rattle.ground.proofs.Bits.{back, back_is, lt-told}
+use Rattle.ground.proofs.Bits.{back, back_is, lt_told}
 
 -- what holds of each of the four numbers of wraps holds of all
 pub four : (P : ℕ → Type 0) → P 0 → P 1 → P 2 → P 3 → (w : ℕ) → w ≤ 3 → P w
@@ -22,9 +22,9 @@ four P a b c d (suc (suc zero)) h = c
 four P a b c d (suc (suc (suc zero))) h = d
 four P a b c d (suc (suc (suc (suc w)))) h = absurd (omega arith)
 
-pub kind-missing : (w : ℕ) → w ≤ 3 → kind_of (missing w) ≡ Missing w
+pub kind_missing : (w : ℕ) → w ≤ 3 → kind_of (missing w) ≡ Missing w
 unfolding kind_of
-kind-missing = four (λ w. kind_of (missing w) ≡ Missing w) refl refl refl refl
+kind_missing = four (λ w. kind_of (missing w) ≡ Missing w) refl refl refl refl
 
 -- ---- the three kinds of a word, with what each tells
 
@@ -47,17 +47,17 @@ view (negsuc n) = go (leb n 999999998) refl
     go true e = ordinary (simp e)
     go false e = bad (simp e)
 
-pub missing-is : (x : ℤ) (w : ℕ) → kind_of x ≡ Missing w → (x ≡ missing w) × (w ≤ 3)
-missing-is x w e = go (view x)
+pub missing_is : (x : ℤ) (w : ℕ) → kind_of x ≡ Missing w → (x ≡ missing w) × (w ≤ 3)
+missing_is x w e = go (view x)
   where
     go : View x → (x ≡ missing w) × (w ≤ 3)
     go (ordinary f) = let z : ◌≡◌ {A = ℕ} 0 1 = cc in absurd (omega arith)
-    go (wraps v h f) = let q : v ≡ w = cc (kind-missing v h, ap kind_of f) in (f ∙ ap missing q, omega arith)
+    go (wraps v h f) = let q : v ≡ w = cc (kind_missing v h, ap kind_of f) in (f ∙ ap missing q, omega arith)
     go (bad f) = let z : ◌≡◌ {A = ℕ} 0 1 = cc in absurd (omega arith)
 
 -- an ordinary word is not missing
-pub ordinary-not : (x : ℤ) (w : ℕ) → w ≤ 3 → kind_of x ≡ Ordinary → x ≡ missing w → ⊥
-ordinary-not x w h e q = let z : ◌≡◌ {A = ℕ} 0 1 = cc (kind-missing w h, ap kind_of q) in omega arith
+pub ordinary_not : (x : ℤ) (w : ℕ) → w ≤ 3 → kind_of x ≡ Ordinary → x ≡ missing w → ⊥
+ordinary_not x w h e q = let z : ◌≡◌ {A = ℕ} 0 1 = cc (kind_missing w h, ap kind_of q) in omega arith
 
 -- ---- what a `match` over the three ranges tells
 
@@ -82,20 +82,20 @@ beyond (negsuc n) g = cc g
 
 module _ {x : ℤ} (f : SFits w32 x) where
   pub told_below : lt_z (back x) (negsuc 999999998) ≡ true → kind_of x ≡ Bad
-  told_below h = below x (lt-told f _ h)
+  told_below h = below x (lt_told f _ h)
 
   pub told-among : lt_z (back x) (negsuc 999999998) ≡ false → lt_z (back x) (pos 1000000000) ≡ true → kind_of x ≡ Ordinary
-  told-among g h = among x (lt-told f _ g) (lt-told f _ h)
+  told-among g h = among x (lt_told f _ g) (lt_told f _ h)
 
   -- what holds of the four missing words holds of x
-  pub told-four : (P : ℤ → Type 0) → P (missing 0) → P (missing 1) → P (missing 2) → P (missing 3) → lt_z (back x) (pos 1000000000) ≡ false → lt_z (back x) (pos 1000000004) ≡ true → P x
-  told-four P a b c d g h =
-      let e = few x (lt-told f _ g) (lt-told f _ h) in
+  pub told_four : (P : ℤ → Type 0) → P (missing 0) → P (missing 1) → P (missing 2) → P (missing 3) → lt_z (back x) (pos 1000000000) ≡ false → lt_z (back x) (pos 1000000004) ≡ true → P x
+  told_four P a b c d g h =
+      let e = few x (lt_told f _ g) (lt_told f _ h) in
       subst P (sym e.0) (four (λ w. P (missing w)) a b c d _ e.1)
 
-  pub told-beyond : lt_z (back x) (pos 1000000004) ≡ false → kind_of x ≡ Bad
-  told-beyond g = beyond x (lt-told f _ g)
+  pub told_beyond : lt_z (back x) (pos 1000000004) ≡ false → kind_of x ≡ Bad
+  told_beyond g = beyond x (lt_told f _ g)
 
   -- what a call of `kind_of` ensures, and the arm that its result led to
-  pub told-kind : {r k : Kind} → r ≡ kind_of (back x) → r ≡ k → kind_of x ≡ k
-  told-kind e q = ap kind_of (sym (back_is f)) ∙ sym e ∙ q
+  pub told_kind : {r k : Kind} → r ≡ kind_of (back x) → r ≡ k → kind_of x ≡ k
+  told_kind e q = ap kind_of (sym (back_is f)) ∙ sym e ∙ q

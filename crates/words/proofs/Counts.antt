@@ -9,36 +9,36 @@ use lib.ListN.{length}
 use borrow.Author.Tests.{ltb-true, lt-ltb}
 use Rattle.ground.proofs.Lists.{All}
 use Rattle.words.specs.Majority.{same, kept, occurs, over_half, first, majority}
-use Rattle.words.proofs.Same.{same-eq, same_refl, same-ne, ne_same}
+use Rattle.words.proofs.Same.{same_eq, same_refl, same_ne, ne_same}
 
 -- ---- at most one word has more than half
 
-over-lt : (l : List ℤ) (v : ℤ) → over_half l v ≡ true → length l < 2 * occurs v l
+over_lt : (l : List ℤ) (v : ℤ) → over_half l v ≡ true → length l < 2 * occurs v l
 unfolding over_half
-over-lt l v e = ltb-true (length l) (2 * occurs v l) e
+over_lt l v e = ltb-true (length l) (2 * occurs v l) e
 
-lt-over : (l : List ℤ) (v : ℤ) → length l < 2 * occurs v l → over_half l v ≡ true
+lt_over : (l : List ℤ) (v : ℤ) → length l < 2 * occurs v l → over_half l v ≡ true
 unfolding over_half
-lt-over l v h = lt-ltb (length l) (2 * occurs v l) h
+lt_over l v h = lt-ltb (length l) (2 * occurs v l) h
 
 -- two different words have at most the whole list between them
-occurs-two : (v w : ℤ) → (v ≡ w → ⊥) → (l : List ℤ) → occurs v l + occurs w l ≤ length l
+occurs_two : (v w : ℤ) → (v ≡ w → ⊥) → (l : List ℤ) → occurs v l + occurs w l ≤ length l
 unfolding occurs
-occurs-two v w n [] = omega arith
-occurs-two v w n (x ∷ xs) = go (occurs-two v w n xs) (same x v) (same x w) refl refl
+occurs_two v w n [] = omega arith
+occurs_two v w n (x ∷ xs) = go (occurs_two v w n xs) (same x v) (same x w) refl refl
   where
     go : occurs v xs + occurs w xs ≤ length xs → (b c : Bool) → same x v ≡ b → same x w ≡ c → cond b (suc (occurs v xs)) (occurs v xs) + cond c (suc (occurs w xs)) (occurs w xs) ≤ suc (length xs)
-    go ih true true p q = absurd (n (sym (same-eq x v p) ∙ same-eq x w q))
+    go ih true true p q = absurd (n (sym (same_eq x v p) ∙ same_eq x w q))
     go ih true false p q = omega arith
     go ih false true p q = omega arith
     go ih false false p q = omega arith
 
-pub one-over : (l : List ℤ) (v w : ℤ) → length l < 2 * occurs v l → length l < 2 * occurs w l → v ≡ w
-one-over l v w p q = go (same v w) refl
+pub one_over : (l : List ℤ) (v w : ℤ) → length l < 2 * occurs v l → length l < 2 * occurs w l → v ≡ w
+one_over l v w p q = go (same v w) refl
   where
     go : (b : Bool) → same v w ≡ b → v ≡ w
-    go true e = same-eq v w e
-    go false e = absurd (omega (arith, occurs-two v w (same-ne v w e) l))
+    go true e = same_eq v w e
+    go false e = absurd (omega (arith, occurs_two v w (same_ne v w e) l))
 
 -- ---- the search finds it
 
@@ -66,19 +66,19 @@ module _ (struck : ℤ → Bool) (none : ℤ) (l : List ℤ) where
   search = found (over_half (kept struck l)) none (kept struck l)
 
   -- a word with more than half of what is left is the majority
-  pub over-is : (v : ℤ) → length (kept struck l) < 2 * occurs v (kept struck l) → majority struck none l ≡ v
-  over-is v h = go search
+  pub over_is : (v : ℤ) → length (kept struck l) < 2 * occurs v (kept struck l) → majority struck none l ≡ v
+  over_is v h = go search
     where
       go : Found (over_half (kept struck l)) none (kept struck l) (majority struck none l) → majority struck none l ≡ v
-      go (one p) = one-over (kept struck l) _ v (over-lt (kept struck l) _ p) h
-      go (no p q) = absurd (omega (arith, q v (lt-over (kept struck l) v h)))
+      go (one p) = one_over (kept struck l) _ v (over_lt (kept struck l) _ p) h
+      go (no p q) = absurd (omega (arith, q v (lt_over (kept struck l) v h)))
 
   -- where no word has it, the majority is the word for none
   pub none_over : ((v : ℤ) → length (kept struck l) < 2 * occurs v (kept struck l) → ⊥) → majority struck none l ≡ none
   none_over n = go search
     where
       go : Found (over_half (kept struck l)) none (kept struck l) (majority struck none l) → majority struck none l ≡ none
-      go (one p) = absurd (n _ (over-lt (kept struck l) _ p))
+      go (one p) = absurd (n _ (over_lt (kept struck l) _ p))
       go (no p q) = p
 
 -- ---- how often each word occurs decides
@@ -95,8 +95,8 @@ occurs-kept s v (x ∷ xs) = go (occurs-kept s v xs) (same x v) (s x) (s v) refl
     go : occurs v (kept s xs) ≡ cond (s v) 0 (occurs v xs) → (b c d : Bool) → same x v ≡ b → s x ≡ c → s v ≡ d → occurs v (cond c (kept s xs) (x ∷ kept s xs)) ≡ cond d 0 (cond b (suc (occurs v xs)) (occurs v xs))
     go ih true true true p q r = rw r at ih
     go ih true false false p q r = rw p (ap suc (rw r at ih))
-    go ih true true false p q r = let e : x ≡ v = same-eq x v p in let z : ◌≡◌ {A = ℕ} 0 1 = cc in absurd (omega arith)
-    go ih true false true p q r = let e : x ≡ v = same-eq x v p in let z : ◌≡◌ {A = ℕ} 0 1 = cc in absurd (omega arith)
+    go ih true true false p q r = let e : x ≡ v = same_eq x v p in let z : ◌≡◌ {A = ℕ} 0 1 = cc in absurd (omega arith)
+    go ih true false true p q r = let e : x ≡ v = same_eq x v p in let z : ◌≡◌ {A = ℕ} 0 1 = cc in absurd (omega arith)
     go ih false true true p q r = rw r at ih
     go ih false true false p q r = rw r at ih
     go ih false false true p q r = rw p (rw r at ih)
@@ -107,19 +107,19 @@ unfoldable less : ℤ → List ℤ → List ℤ
 less v [] = []
 less v (x ∷ xs) = cond (same x v) xs (x ∷ less v xs)
 
-less-length : (v : ℤ) (l : List ℤ) → 0 < occurs v l → suc (length (less v l)) ≡ length l
+less_length : (v : ℤ) (l : List ℤ) → 0 < occurs v l → suc (length (less v l)) ≡ length l
 unfolding less occurs
-less-length v [] h = absurd (omega arith)
-less-length v (x ∷ xs) h = go (less-length v xs) (same x v) h
+less_length v [] h = absurd (omega arith)
+less_length v (x ∷ xs) h = go (less_length v xs) (same x v) h
   where
     go : (0 < occurs v xs → suc (length (less v xs)) ≡ length xs) → (b : Bool) → 0 < cond b (suc (occurs v xs)) (occurs v xs) → suc (length (cond b xs (x ∷ less v xs))) ≡ suc (length xs)
     go ih true g = refl
     go ih false g = ap suc (ih g)
 
-less-occurs : (v w : ℤ) (l : List ℤ) → 0 < occurs v l → occurs w l ≡ cond (same v w) (suc (occurs w (less v l))) (occurs w (less v l))
+less_occurs : (v w : ℤ) (l : List ℤ) → 0 < occurs v l → occurs w l ≡ cond (same v w) (suc (occurs w (less v l))) (occurs w (less v l))
 unfolding less occurs
-less-occurs v w [] h = absurd (omega arith)
-less-occurs v w (x ∷ xs) h = go (less-occurs v w xs) (same x v) refl h
+less_occurs v w [] h = absurd (omega arith)
+less_occurs v w (x ∷ xs) h = go (less_occurs v w xs) (same x v) refl h
   where
     swap : (a b : Bool) (i j : ℕ) → i ≡ cond b (suc j) j → cond a (suc i) i ≡ cond b (suc (cond a (suc j) j)) (cond a (suc j) j)
     swap true true i j e = ap suc e
@@ -128,7 +128,7 @@ less-occurs v w (x ∷ xs) h = go (less-occurs v w xs) (same x v) refl h
     swap false false i j e = e
 
     go : (0 < occurs v xs → occurs w xs ≡ cond (same v w) (suc (occurs w (less v xs))) (occurs w (less v xs))) → (b : Bool) → same x v ≡ b → 0 < cond b (suc (occurs v xs)) (occurs v xs) → cond (same x w) (suc (occurs w xs)) (occurs w xs) ≡ cond (same v w) (suc (occurs w (cond b xs (x ∷ less v xs)))) (occurs w (cond b xs (x ∷ less v xs)))
-    go ih true e g = rw (same-eq x v e)
+    go ih true e g = rw (same_eq x v e)
     go ih false e g = swap (same x w) (same v w) _ _ (ih g)
 
 -- the counts tell the length
@@ -138,18 +138,18 @@ same_length [] [] e = refl
 same_length [] (y ∷ ys) e = let h = e y in absurd (omega (arith, rw (same_refl y) at h))
 same_length (x ∷ xs) l e =
     let h : 0 < occurs x l = omega (arith, rw (same_refl x) at (e x)) in
-    omega (arith, less-length x l h, same_length xs (less x l) (λ v. rest v h (same x v) refl))
+    omega (arith, less_length x l h, same_length xs (less x l) (λ v. rest v h (same x v) refl))
   where
     rest : (v : ℤ) → 0 < occurs x l → (b : Bool) → same x v ≡ b → occurs v xs ≡ occurs v (less x l)
-    rest v h b s = drop-one b (sym (ap (λ (c : Bool). cond c (suc (occurs v xs)) (occurs v xs)) s) ∙ e v ∙ less-occurs x v l h ∙ ap (λ (c : Bool). cond c (suc (occurs v (less x l))) (occurs v (less x l))) s)
+    rest v h b s = drop_one b (sym (ap (λ (c : Bool). cond c (suc (occurs v xs)) (occurs v xs)) s) ∙ e v ∙ less_occurs x v l h ∙ ap (λ (c : Bool). cond c (suc (occurs v (less x l))) (occurs v (less x l))) s)
       where
-        drop-one : (c : Bool) → cond c (suc (occurs v xs)) (occurs v xs) ≡ cond c (suc (occurs v (less x l))) (occurs v (less x l)) → occurs v xs ≡ occurs v (less x l)
-        drop-one true p = omega arith
-        drop-one false p = p
+        drop_one : (c : Bool) → cond c (suc (occurs v xs)) (occurs v xs) ≡ cond c (suc (occurs v (less x l))) (occurs v (less x l)) → occurs v xs ≡ occurs v (less x l)
+        drop_one true p = omega arith
+        drop_one false p = p
 
 -- two lists in which each word occurs equally often have the same majority: the order does not matter
-pub by-counts : (struck : ℤ → Bool) (none : ℤ) (k l : List ℤ) → ((v : ℤ) → occurs v k ≡ occurs v l) → majority struck none k ≡ majority struck none l
-by-counts s e k l h = go (search s e k)
+pub by_counts : (struck : ℤ → Bool) (none : ℤ) (k l : List ℤ) → ((v : ℤ) → occurs v k ≡ occurs v l) → majority struck none k ≡ majority struck none l
+by_counts s e k l h = go (search s e k)
   where
     kept_same : (v : ℤ) → occurs v (kept s k) ≡ occurs v (kept s l)
     kept_same v = occurs-kept s v k ∙ ap (λ (n : ℕ). cond (s v) 0 n) (h v) ∙ sym (occurs-kept s v l)
@@ -158,8 +158,8 @@ by-counts s e k l h = go (search s e k)
     long = same_length (kept s k) (kept s l) kept_same
 
     go : Found (over_half (kept s k)) e (kept s k) (majority s e k) → majority s e k ≡ majority s e l
-    go (one p) = sym (over-is s e l _ (omega (arith, over-lt (kept s k) _ p, kept_same (majority s e k), long)))
-    go (no p q) = p ∙ sym (none_over s e l (λ v o. omega (arith, kept_same v, long, q v (lt-over (kept s k) v (omega (arith, kept_same v, long))))))
+    go (one p) = sym (over_is s e l _ (omega (arith, over_lt (kept s k) _ p, kept_same (majority s e k), long)))
+    go (no p q) = p ∙ sym (none_over s e l (λ v o. omega (arith, kept_same v, long, q v (lt_over (kept s k) v (omega (arith, kept_same v, long))))))
 
 -- ---- the majority is a word of the list, or the word for none
 

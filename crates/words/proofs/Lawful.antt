@@ -6,7 +6,7 @@ use lib.IntN.{ℤ}
 use Rattle.words.specs.Word.{kind_of, E, unwrapped}
 use Rattle.words.specs.Rule.{Rule, omh}
 use Rattle.words.proofs.Same.{ne_same}
-use Rattle.words.proofs.Reading.{read-E, read_read, itself, is_read, wrap_reads, unwrap_reads, unwrap-wrap, wrap-not-E}
+use Rattle.words.proofs.Reading.{read-E, read_read, itself, is_read, wrap_reads, unwrap_reads, unwrap-wrap, wrap_not_E}
 
 pub record Lawful (R : Rule) : Type 0 where
   -- a reading reads as itself
@@ -26,13 +26,13 @@ unwrap-E : unwrapped E ≡ E
 unfolding unwrapped kind_of
 unwrap-E = refl
 
-pub omh-lawful : Lawful omh
-omh-lawful = record {
+pub omh_lawful : Lawful omh
+omh_lawful = record {
   read_read = read_read;
   wrap_reads = λ d x e. itself (suc d) _ (wrap_reads d x (is_read d x e));
   unwrap_reads = λ d x e. itself d _ (unwrap_reads d x (is_read (suc d) x e));
   undone = λ d x h e. unwrap-wrap d x h (is_read d x e);
-  counted = λ d x h e. ne_same E _ (λ q. wrap-not-E d x h (is_read d x e) (sym q));
+  counted = λ d x h e. ne_same E _ (λ q. wrap_not_E d x h (is_read d x e) (sym q));
   missing_reads = read-E;
   none_reads = read-E;
   none_unwraps = unwrap-E;

@@ -12,74 +12,74 @@ use mir.Syntax.{w32}
 use mir.Val.{SFits}
 use Rattle.words.specs.Word.{kind_of, missing, E, read_at, wrapped, unwrapped}
 use Rattle.words.specs.declared.Kind.TheVariants.{Ordinary, Bad}
-use Rattle.ground.proofs.Bits.{back, back_is, lt-told}
-use Rattle.words.proofs.ByKind.{kind-missing, View, ordinary, wraps, bad, view, ordinary-not, among, beyond, told_below}
+use Rattle.ground.proofs.Bits.{back, back_is, lt_told}
+use Rattle.words.proofs.ByKind.{kind_missing, View, ordinary, wraps, bad, view, ordinary_not, among, beyond, told_below}
 
 -- ---- each operation on each kind
 
-read-ordinary : (d : ℕ) (x : ℤ) → kind_of x ≡ Ordinary → read_at d x ≡ x
+read_ordinary : (d : ℕ) (x : ℤ) → kind_of x ≡ Ordinary → read_at d x ≡ x
 unfolding read_at
-read-ordinary d x e = rw e
+read_ordinary d x e = rw e
 
-read-bad : (d : ℕ) (x : ℤ) → kind_of x ≡ Bad → read_at d x ≡ E
+read_bad : (d : ℕ) (x : ℤ) → kind_of x ≡ Bad → read_at d x ≡ E
 unfolding read_at
-read-bad d x e = rw e
+read_bad d x e = rw e
 
 read-missing : (d w : ℕ) → w ≤ 3 → w ≤ d → read_at d (missing w) ≡ missing w
 unfolding read_at
-read-missing d w h l = simp (kind-missing w h, le-leb w d l)
+read-missing d w h l = simp (kind_missing w h, le-leb w d l)
 
-read-too-far : (d w : ℕ) → w ≤ 3 → d < w → read_at d (missing w) ≡ E
+read_too_far : (d w : ℕ) → w ≤ 3 → d < w → read_at d (missing w) ≡ E
 unfolding read_at
-read-too-far d w h l = simp (kind-missing w h, lt-leb w d l)
+read_too_far d w h l = simp (kind_missing w h, lt-leb w d l)
 
 pub read-E : (d : ℕ) → read_at d E ≡ E
 read-E d = read-missing d 0 (omega arith) (omega arith)
 
-wrap-ordinary : (x : ℤ) → kind_of x ≡ Ordinary → wrapped x ≡ x
+wrap_ordinary : (x : ℤ) → kind_of x ≡ Ordinary → wrapped x ≡ x
 unfolding wrapped
-wrap-ordinary x e = rw e
+wrap_ordinary x e = rw e
 
 wrap-missing : (w : ℕ) → w < 3 → wrapped (missing w) ≡ missing (w + 1)
 unfolding wrapped
-wrap-missing w h = simp (kind-missing w (omega arith), lt-ltb w 3 h)
+wrap-missing w h = simp (kind_missing w (omega arith), lt-ltb w 3 h)
 
-wrap-most : wrapped (missing 3) ≡ E
+wrap_most : wrapped (missing 3) ≡ E
 unfolding wrapped kind_of
-wrap-most = refl
+wrap_most = refl
 
-unwrap-ordinary : (x : ℤ) → kind_of x ≡ Ordinary → unwrapped x ≡ x
+unwrap_ordinary : (x : ℤ) → kind_of x ≡ Ordinary → unwrapped x ≡ x
 unfolding unwrapped
-unwrap-ordinary x e = rw e
+unwrap_ordinary x e = rw e
 
 unwrap-missing : (w : ℕ) → w ≤ 3 → unwrapped (missing w) ≡ missing (w - 1)
 unfolding unwrapped
-unwrap-missing w h = simp (kind-missing w h)
+unwrap-missing w h = simp (kind_missing w h)
 
 -- ---- what reads as itself at a level: an ordinary word, or missing with no more wraps than the level
 
 pub data Reads (d : ℕ) (x : ℤ) : Type 0 where
-  as-ordinary : kind_of x ≡ Ordinary → Reads d x
-  as-missing : (w : ℕ) → w ≤ 3 → w ≤ d → x ≡ missing w → Reads d x
+  as_ordinary : kind_of x ≡ Ordinary → Reads d x
+  as_missing : (w : ℕ) → w ≤ 3 → w ≤ d → x ≡ missing w → Reads d x
 
-reads-E : (d : ℕ) (x : ℤ) → x ≡ E → Reads d x
-reads-E d x e = as-missing 0 (omega arith) (omega arith) e
+reads_E : (d : ℕ) (x : ℤ) → x ≡ E → Reads d x
+reads_E d x e = as_missing 0 (omega arith) (omega arith) e
 
 pub reads : (d : ℕ) (x : ℤ) → Reads d (read_at d x)
 reads d x = go (view x)
   where
     near : (w : ℕ) → w ≤ 3 → x ≡ missing w → (b : Bool) → leb w d ≡ b → Reads d (read_at d x)
-    near w h e true l = as-missing w h (leb-true w d l) (ap (read_at d) e ∙ read-missing d w h (leb-true w d l))
-    near w h e false l = reads-E d _ (ap (read_at d) e ∙ read-too-far d w h (leb-false w d l))
+    near w h e true l = as_missing w h (leb-true w d l) (ap (read_at d) e ∙ read-missing d w h (leb-true w d l))
+    near w h e false l = reads_E d _ (ap (read_at d) e ∙ read_too_far d w h (leb-false w d l))
 
     go : View x → Reads d (read_at d x)
-    go (ordinary e) = as-ordinary (ap kind_of (read-ordinary d x e) ∙ e)
+    go (ordinary e) = as_ordinary (ap kind_of (read_ordinary d x e) ∙ e)
     go (wraps w h e) = near w h e (leb w d) refl
-    go (bad e) = reads-E d _ (read-bad d x e)
+    go (bad e) = reads_E d _ (read_bad d x e)
 
 pub itself : (d : ℕ) (x : ℤ) → Reads d x → read_at d x ≡ x
-itself d x (as-ordinary e) = read-ordinary d x e
-itself d x (as-missing w h l e) = ap (read_at d) e ∙ read-missing d w h l ∙ sym e
+itself d x (as_ordinary e) = read_ordinary d x e
+itself d x (as_missing w h l e) = ap (read_at d) e ∙ read-missing d w h l ∙ sym e
 
 pub is_read : (d : ℕ) (x : ℤ) → read_at d x ≡ x → Reads d x
 is_read d x e = subst (Reads d) e (reads d x)
@@ -95,76 +95,76 @@ pub read-over : (d : ℕ) (x : ℤ) → 3 ≤ d → read_at d x ≡ read_at 3 x
 read-over d x g = go (view x)
   where
     go : View x → read_at d x ≡ read_at 3 x
-    go (ordinary e) = read-ordinary d x e ∙ sym (read-ordinary 3 x e)
+    go (ordinary e) = read_ordinary d x e ∙ sym (read_ordinary 3 x e)
     go (wraps w h e) = ap (read_at d) e ∙ read-missing d w h (omega arith) ∙ sym (ap (read_at 3) e ∙ read-missing 3 w h h)
-    go (bad e) = read-bad d x e ∙ sym (read-bad 3 x e)
+    go (bad e) = read_bad d x e ∙ sym (read_bad 3 x e)
 
 -- the wrapped reading of level d reads as itself at level d + 1
 pub wrap_reads : (d : ℕ) (x : ℤ) → Reads d x → Reads (suc d) (wrapped x)
-wrap_reads d x (as-ordinary e) = as-ordinary (ap kind_of (wrap-ordinary x e) ∙ e)
-wrap_reads d x (as-missing w h l e) = go (ltb w 3) refl
+wrap_reads d x (as_ordinary e) = as_ordinary (ap kind_of (wrap_ordinary x e) ∙ e)
+wrap_reads d x (as_missing w h l e) = go (ltb w 3) refl
   where
     go : (b : Bool) → ltb w 3 ≡ b → Reads (suc d) (wrapped x)
-    go true t = as-missing (w + 1) (omega (arith, ltb-true w 3 t)) (omega arith) (ap wrapped e ∙ wrap-missing w (ltb-true w 3 t))
-    go false t = let q : w ≡ 3 = omega (arith, ltb-false w 3 t) in reads-E (suc d) _ (ap wrapped (e ∙ ap missing q) ∙ wrap-most)
+    go true t = as_missing (w + 1) (omega (arith, ltb-true w 3 t)) (omega arith) (ap wrapped e ∙ wrap-missing w (ltb-true w 3 t))
+    go false t = let q : w ≡ 3 = omega (arith, ltb-false w 3 t) in reads_E (suc d) _ (ap wrapped (e ∙ ap missing q) ∙ wrap_most)
 
 -- unwrapping undoes wrapping, for every word read at levels 0 to 2
 pub unwrap-wrap : (d : ℕ) (x : ℤ) → d ≤ 2 → Reads d x → unwrapped (wrapped x) ≡ x
-unwrap-wrap d x g (as-ordinary e) = ap unwrapped (wrap-ordinary x e) ∙ unwrap-ordinary x e
-unwrap-wrap d x g (as-missing w h l e) =
+unwrap-wrap d x g (as_ordinary e) = ap unwrapped (wrap_ordinary x e) ∙ unwrap_ordinary x e
+unwrap-wrap d x g (as_missing w h l e) =
     let q : w + 1 - 1 ≡ w = omega arith in
     ap (λ (y : ℤ). unwrapped (wrapped y)) e ∙ ap unwrapped (wrap-missing w (omega arith)) ∙ unwrap-missing (w + 1) (omega arith) ∙ ap missing q ∙ sym e
 
 -- and no wrapped value is E
-pub wrap-not-E : (d : ℕ) (x : ℤ) → d ≤ 2 → Reads d x → wrapped x ≡ E → ⊥
-wrap-not-E d x g (as-ordinary e) q = ordinary-not x 0 (omega arith) e (sym (wrap-ordinary x e) ∙ q)
-wrap-not-E d x g (as-missing w h l e) q = let z = ap nat_abs (sym (wrap-missing w (omega arith)) ∙ ap wrapped (sym e) ∙ q) in omega arith
+pub wrap_not_E : (d : ℕ) (x : ℤ) → d ≤ 2 → Reads d x → wrapped x ≡ E → ⊥
+wrap_not_E d x g (as_ordinary e) q = ordinary_not x 0 (omega arith) e (sym (wrap_ordinary x e) ∙ q)
+wrap_not_E d x g (as_missing w h l e) q = let z = ap nat_abs (sym (wrap-missing w (omega arith)) ∙ ap wrapped (sym e) ∙ q) in omega arith
 
 -- what reads as itself at level d + 1 does so at level d when it is unwrapped
 pub unwrap_reads : (d : ℕ) (x : ℤ) → Reads (suc d) x → Reads d (unwrapped x)
-unwrap_reads d x (as-ordinary e) = as-ordinary (ap kind_of (unwrap-ordinary x e) ∙ e)
-unwrap_reads d x (as-missing w h l e) = as-missing (w - 1) (omega arith) (omega arith) (ap unwrapped e ∙ unwrap-missing w h)
+unwrap_reads d x (as_ordinary e) = as_ordinary (ap kind_of (unwrap_ordinary x e) ∙ e)
+unwrap_reads d x (as_missing w h l e) = as_missing (w - 1) (omega arith) (omega arith) (ap unwrapped e ∙ unwrap-missing w h)
 
 -- at level 0 it is ordinary or E
-pub read-0 : (x : ℤ) → Reads 0 x → (kind_of x ≡ Ordinary) ⊎ (x ≡ E)
-read-0 x (as-ordinary e) = inl e
-read-0 x (as-missing w h l e) = let q : w ≡ 0 = omega arith in inr (e ∙ ap missing q)
+pub read_0 : (x : ℤ) → Reads 0 x → (kind_of x ≡ Ordinary) ⊎ (x ≡ E)
+read_0 x (as_ordinary e) = inl e
+read_0 x (as_missing w h l e) = let q : w ≡ 0 = omega arith in inr (e ∙ ap missing q)
 
 -- ---- what a `match` over one range tells: it ends d above E, where d is the level, and 3 for a level over 3
 
 -- so it is 3 for a level that is none of 0, 1 and 2
-pub over-two : (l : ℕ) → (l ≡ 0 → ⊥) → (l ≡ 1 → ⊥) → (l ≡ 2 → ⊥) → 3 ≡ l - (l - 3)
-over-two l a b c = omega arith
+pub over_two : (l : ℕ) → (l ≡ 0 → ⊥) → (l ≡ 1 → ⊥) → (l ≡ 2 → ⊥) → 3 ≡ l - (l - 3)
+over_two l a b c = omega arith
 
-within-reads : (l d : ℕ) → d ≡ l - (l - 3) → (x : ℤ) → lt_z x (negsuc 999999998) ≡ false → lt_z x (pos (1000000001 + d)) ≡ true → read_at l x ≡ x
-within-reads l d q (pos n) g h = go (ltb n 1000000000) refl
+within_reads : (l d : ℕ) → d ≡ l - (l - 3) → (x : ℤ) → lt_z x (negsuc 999999998) ≡ false → lt_z x (pos (1000000001 + d)) ≡ true → read_at l x ≡ x
+within_reads l d q (pos n) g h = go (ltb n 1000000000) refl
   where
     go : (b : Bool) → ltb n 1000000000 ≡ b → read_at l (pos n) ≡ pos n
-    go true e = read-ordinary l _ (among (pos n) g e)
+    go true e = read_ordinary l _ (among (pos n) g e)
     go false e =
         let u = ltb-true n (1000000001 + d) h in
         let v = ltb-false n 1000000000 e in
-        itself l _ (as-missing (n - 1000000000) (omega arith) (omega arith) (ap pos (omega arith)))
-within-reads l d q (negsuc n) g h = read-ordinary l _ (among (negsuc n) g refl)
+        itself l _ (as_missing (n - 1000000000) (omega arith) (omega arith) (ap pos (omega arith)))
+within_reads l d q (negsuc n) g h = read_ordinary l _ (among (negsuc n) g refl)
 
-high-reads : (l d : ℕ) → d ≡ l - (l - 3) → (x : ℤ) → lt_z x (pos (1000000001 + d)) ≡ false → read_at l x ≡ E
-high-reads l d q (pos n) h = go (ltb n 1000000004) refl
+high_reads : (l d : ℕ) → d ≡ l - (l - 3) → (x : ℤ) → lt_z x (pos (1000000001 + d)) ≡ false → read_at l x ≡ E
+high_reads l d q (pos n) h = go (ltb n 1000000004) refl
   where
     go : (b : Bool) → ltb n 1000000004 ≡ b → read_at l (pos n) ≡ E
     go true e =
         let u = ltb-false n (1000000001 + d) h in
         let v = ltb-true n 1000000004 e in
         let w : n ≡ 1000000000 + (n - 1000000000) = omega arith in
-        ap (λ (k : ℕ). read_at l (pos k)) w ∙ read-too-far l (n - 1000000000) (omega arith) (omega arith)
-    go false e = read-bad l _ (beyond (pos n) e)
-high-reads l d q (negsuc n) h = absurd (true≢false h)
+        ap (λ (k : ℕ). read_at l (pos k)) w ∙ read_too_far l (n - 1000000000) (omega arith) (omega arith)
+    go false e = read_bad l _ (beyond (pos n) e)
+high_reads l d q (negsuc n) h = absurd (true≢false h)
 
 module _ {x : ℤ} (f : SFits w32 x) (l : ℕ) where
-  pub told-low : lt_z (back x) (negsuc 999999998) ≡ true → E ≡ read_at l x
-  told-low h = sym (read-bad l x (told_below f h))
+  pub told_low : lt_z (back x) (negsuc 999999998) ≡ true → E ≡ read_at l x
+  told_low h = sym (read_bad l x (told_below f h))
 
   pub told-within : (d : ℕ) → d ≡ l - (l - 3) → lt_z (back x) (negsuc 999999998) ≡ false → lt_z (back x) (pos (1000000001 + d)) ≡ true → back x ≡ read_at l x
-  told-within d q g h = back_is f ∙ sym (within-reads l d q x (lt-told f _ g) (lt-told f _ h))
+  told-within d q g h = back_is f ∙ sym (within_reads l d q x (lt_told f _ g) (lt_told f _ h))
 
-  pub told-high : (d : ℕ) → d ≡ l - (l - 3) → lt_z (back x) (pos (1000000001 + d)) ≡ false → E ≡ read_at l x
-  told-high d q h = sym (high-reads l d q x (lt-told f _ h))
+  pub told_high : (d : ℕ) → d ≡ l - (l - 3) → lt_z (back x) (pos (1000000001 + d)) ≡ false → E ≡ read_at l x
+  told_high d q h = sym (high_reads l d q x (lt_told f _ h))

@@ -16,13 +16,13 @@ use borrow.Author.Tests.{lt-ltb, le-ltb, ltb-true, ltb-false}
 use lib.Dec.{ltb}
 use Rattle.words.specs.Majority.{same, kept, occurs, over_half, first, majority}
 use Rattle.words.specs.Counted.{enough, majority_of}
-use Rattle.ground.proofs.Bits.{back, back_is, bits-eq}
-use Rattle.words.proofs.Same.{eq-same, ne_same}
+use Rattle.ground.proofs.Bits.{back, back_is, bits_eq}
+use Rattle.words.proofs.Same.{eq_same, ne_same}
 use Rattle.words.proofs.Counts.{occurs-kept}
 
 -- what a test of two words that were read tells
 pub told_same : {x y : ℤ} → mag x < 2 ^ 31 → mag y < 2 ^ 31 → of_z w32 x ≡ of_z w32 y → x ≡ y
-told_same f g e = bits-eq (sfits_of f) (sfits_of g) e
+told_same f g e = bits_eq (sfits_of f) (sfits_of g) e
 
 -- what the answer r tells, whether the word x, which was read, is struck
 pub told : (s : ℤ → Bool) (x : ℤ) {r : Bool} → mag x < 2 ^ 31 → r ≡ s (back x) → (t : Bool) → not r ≡ t → s x ≡ not t
@@ -42,10 +42,10 @@ kept_append s (x ∷ xs) ys = go (kept_append s xs ys) (s x)
     go ih false = ap (λ (l : List ℤ). x ∷ l) ih
 
 -- nothing is struck from what is left
-kept-twice : (s : ℤ → Bool) (l : List ℤ) → kept s (kept s l) ≡ kept s l
+kept_twice : (s : ℤ → Bool) (l : List ℤ) → kept s (kept s l) ≡ kept s l
 unfolding kept
-kept-twice s [] = refl
-kept-twice s (x ∷ xs) = go (kept-twice s xs) (s x) refl
+kept_twice s [] = refl
+kept_twice s (x ∷ xs) = go (kept_twice s xs) (s x) refl
   where
     go : kept s (kept s xs) ≡ kept s xs → (b : Bool) → s x ≡ b → kept s (cond b (kept s xs) (x ∷ kept s xs)) ≡ cond b (kept s xs) (x ∷ kept s xs)
     go ih true e = ih
@@ -79,23 +79,23 @@ module _ (l : List ℤ) (i : ℕ) (h : i < length l) where
       one true q = rw q
       one false q = rw q
 
-  pub occurs-more : (v : ℤ) → word ≡ v → occurs v (take (i + 1) l) ≡ occurs v (take i l) + 1
+  pub occurs_more : (v : ℤ) → word ≡ v → occurs v (take (i + 1) l) ≡ occurs v (take i l) + 1
   unfolding occurs
-  occurs-more v e = rw (front, occurs-append, eq-same word v e)
+  occurs_more v e = rw (front, occurs-append, eq_same word v e)
 
   pub occurs-other : (v : ℤ) → (word ≡ v → ⊥) → occurs v (take (i + 1) l) ≡ occurs v (take i l)
   unfolding occurs
   occurs-other v n = rw (front, occurs-append, ne_same word v n) (omega arith)
 
 -- no front has more of a word than the whole list
-occurs-front : (v : ℤ) (l : List ℤ) (i : ℕ) → occurs v (take i l) ≤ occurs v l
-occurs-front v l i = omega (arith, occurs-append v (take i l) (drop i l), ap (occurs v) (take-append-drop i l))
+occurs_front : (v : ℤ) (l : List ℤ) (i : ℕ) → occurs v (take i l) ≤ occurs v l
+occurs_front v l i = omega (arith, occurs-append v (take i l) (drop i l), ap (occurs v) (take-append-drop i l))
 
 -- no more of a word than there are words
-occurs-most : (v : ℤ) (l : List ℤ) → occurs v l ≤ length l
+occurs_most : (v : ℤ) (l : List ℤ) → occurs v l ≤ length l
 unfolding occurs
-occurs-most v [] = omega arith
-occurs-most v (x ∷ xs) = go (occurs-most v xs) (same x v)
+occurs_most v [] = omega arith
+occurs_most v (x ∷ xs) = go (occurs_most v xs) (same x v)
   where
     go : occurs v xs ≤ length xs → (b : Bool) → cond b (suc (occurs v xs)) (occurs v xs) ≤ suc (length xs)
     go ih true = omega arith
@@ -108,23 +108,23 @@ first-none f none h [] = refl
 first-none f none h (x ∷ xs) = rw (h x) (first-none f none h xs)
 
 -- told how many words are left, the search finds the majority
-pub told-rightly : (s : ℤ → Bool) (e : ℤ) (l : List ℤ) → majority_of s e (length (kept s l)) l ≡ majority s e l
+pub told_rightly : (s : ℤ → Bool) (e : ℤ) (l : List ℤ) → majority_of s e (length (kept s l)) l ≡ majority s e l
 unfolding majority_of majority enough over_half
-told-rightly s e l = refl
+told_rightly s e l = refl
 
 -- and so it does in what is left
 pub found_left : (s : ℤ → Bool) (e : ℤ) (l : List ℤ) → majority_of s e (length (kept s l)) (kept s l) ≡ majority s e l
 unfolding majority_of majority enough over_half
-found_left s e l = ap (λ (k : List ℤ). first (λ v. ltb (length (kept s l)) (2 * occurs v k)) e k) (kept-twice s l)
+found_left s e l = ap (λ (k : List ℤ). first (λ v. ltb (length (kept s l)) (2 * occurs v k)) e k) (kept_twice s l)
 
 module _ (s : ℤ → Bool) (e : ℤ) (n : ℕ) (l : List ℤ) where
   -- no word that occurs often enough is among the first i
   abbrev pub Past : ℕ → Type 0
   Past i = (v : ℤ) → s v ≡ false → n / 2 < occurs v l → occurs v (take i l) ≡ 0
 
-  pub past-none : Past 0
+  pub past_none : Past 0
   unfolding occurs
-  past-none v t g = refl
+  past_none v t g = refl
 
   -- the search among the words from j on
   abbrev pub from : ℕ → ℤ
@@ -146,7 +146,7 @@ module _ (s : ℤ → Bool) (e : ℤ) (n : ℕ) (l : List ℤ) where
           go false h = omega (arith, ltb-false (n / 2) (occurs v l) h, rw t at (occurs-kept s v l))
           go true h =
               let o = ltb-true (n / 2) (occurs v l) h in
-              absurd (omega (arith, o, parts, past v t o, occurs-most v (drop i l), length-drop i l))
+              absurd (omega (arith, o, parts, past v t o, occurs_most v (drop i l), length-drop i l))
 
 -- what a turn of the outer loop at i tells
 module _ (s : ℤ → Bool) (e : ℤ) (n : ℕ) (l : List ℤ) (i : ℕ) (h : i < length l) where
@@ -157,15 +157,15 @@ module _ (s : ℤ → Bool) (e : ℤ) (n : ℕ) (l : List ℤ) (i : ℕ) (h : i 
   past_more : ((v : ℤ) → s v ≡ false → n / 2 < occurs v l → at ≡ v → ⊥) → Past s e n l i → Past s e n l (i + 1)
   past_more apart past v t g = occurs-other l i h v (apart v t g) ∙ past v t g
 
-  pub past-struck : s at ≡ true → Past s e n l i → Past s e n l (i + 1)
-  past-struck b = past_more (λ v t g q. let z : ◌≡◌ {A = ℕ} 0 1 = cc in omega arith)
+  pub past_struck : s at ≡ true → Past s e n l i → Past s e n l (i + 1)
+  past_struck b = past_more (λ v t g q. let z : ◌≡◌ {A = ℕ} 0 1 = cc in omega arith)
 
   pub past_next : occurs at l ≤ n / 2 → Past s e n l i → Past s e n l (i + 1)
   past_next g = past_more (λ v t o q. omega (arith, g, o, ap (λ (v : ℤ). occurs v l) q))
 
   -- a word that is not found among those from i on does not occur often enough
-  pub few-from : (seen : ℕ) → s at ≡ false → Past s e n l i → seen + occurs at (take i l) ≡ occurs at l → seen ≤ n / 2 → occurs at l ≤ n / 2
-  few-from seen t past e g = go (ltb (n / 2) (occurs at l)) refl
+  pub few_from : (seen : ℕ) → s at ≡ false → Past s e n l i → seen + occurs at (take i l) ≡ occurs at l → seen ≤ n / 2 → occurs at l ≤ n / 2
+  few_from seen t past e g = go (ltb (n / 2) (occurs at l)) refl
     where
       go : (b : Bool) → ltb (n / 2) (occurs at l) ≡ b → occurs at l ≤ n / 2
       go false h = ltb-false (n / 2) (occurs at l) h
@@ -184,4 +184,4 @@ module _ (s : ℤ → Bool) (e : ℤ) (n : ℕ) (l : List ℤ) (i : ℕ) (h : i 
 
   pub turn-over : s at ≡ false → (j : ℕ) → n / 2 < occurs at (take j l) → from s e n l i ≡ at
   unfolding kept first enough
-  turn-over t j g = rw (rest l i h, t, lt-ltb n (2 * occurs at (kept s l)) (omega (arith, counted t, occurs-front at l j)))
+  turn-over t j g = rw (rest l i h, t, lt-ltb n (2 * occurs at (kept s l)) (omega (arith, counted t, occurs_front at l j)))

@@ -1,10 +1,10 @@
 -- `ages::age_class` meets its contract: each range of ages has its class.
 use Rattle.std.proofs.Common.{sym, arith}
-use Rattle.ages.proofs.Ages.{is-current, is-old, is-ahead}
+use Rattle.ages.proofs.Ages.{is_current, is-old, is-ahead}
 use Rattle.ages.proofs.age_class.Goals as goal
 
 pub returns-in-0 : goal.returns-in-0
-returns-in-0 c = let e = c.age_of.ensures in sym (is-current _ (omega (arith, e, c.in-0.is)))
+returns-in-0 c = let e = c.age_of.ensures in sym (is_current _ (omega (arith, e, c.in-0.is)))
 
 pub returns-in-1-to-32767 : goal.returns-in-1-to-32767
 returns-in-1-to-32767 c =

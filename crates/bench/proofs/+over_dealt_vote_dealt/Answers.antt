@@ -13,13 +13,13 @@ use Rattle.ground.proofs.Bits.{back, back_is}
 use Rattle.words.specs.Word.{read_at, wrapped as wrapped'}
 use Rattle.words.specs.Rule.{omh}
 use Rattle.paths.specs.Slots.{below}
-use Rattle.paths.proofs.Handed.{put_back, room-less, room_most, room_back}
+use Rattle.paths.proofs.Handed.{put_back, room_less, room_most, room_back}
 use Rattle.vote.specs.Vote.{decided}
-use Rattle.vote.proofs.Gather.{inside, report-first, report-more, report-same, weighs, decides}
+use Rattle.vote.proofs.Gather.{inside, report_first, report_more, report_same, weighs, decides}
 use Rattle.exchange.specs.Sending.{sent_to}
-use Rattle.exchange.proofs.Dealing.{on-good}
+use Rattle.exchange.proofs.Dealing.{on_good}
 use Rattle.bench.specs.Dealing.{dealt_vote, dealt_votes}
-use Rattle.bench.proofs.Dealing.{vote-last, vote-more, vote-sends}
+use Rattle.bench.proofs.Dealing.{vote-last, vote_more, vote_sends}
 use Rattle.bench.proofs.+over_dealt_vote_dealt.Goals as goal
 use Rattle.bench.proofs.+over_dealt_vote_dealt.Goals.{over_dealt-then-members-q, over_dealt-else-members-q, over_dealt-At-loop-q, vote_dealt-After-read_at-own}
 
@@ -63,14 +63,14 @@ pub vote_dealt-returns : goal.vote_dealt-returns
 vote_dealt-returns t c =
     let a = c.args in
     let vote : ℤ → ℤ = dealt_vote omh a.statuses.now a.table.now a.p a.members.now a.left a.d a.k a.status in (
-      vote-more omh _ _ _ _ _ _ _ _ _ (own t (goal.at.vote_dealt-returns t c).After-read_at-own) c.if-left-eq0.false
+      vote_more omh _ _ _ _ _ _ _ _ _ (own t (goal.at.vote_dealt-returns t c).After-read_at-own) c.if-left-eq0.false
           (back_is (sfits_of c.over_dealt.type_inv) ∙ c.over_dealt.ensures.0)
           ∙ ap vote (back_is c.ranges.word),
       c.over_dealt.ensures.1,
     )
 
 pub over_dealt-loop-q-init : goal.over_dealt-loop-q-init
-over_dealt-loop-q-init t c = (refl, report-first _ _ _ _ refl c.weight-count.ensures)
+over_dealt-loop-q-init t c = (refl, report_first _ _ _ _ refl c.weight-count.ensures)
 
 pub over_dealt-bounds-members-q : goal.over_dealt-bounds-members-q
 over_dealt-bounds-members-q t c = c.loop-q-test.true
@@ -113,7 +113,7 @@ over_dealt-vote_dealt-vote-requires t c =
         card = pre.card;
         cards = length-set c.loop-q.members _ _ ∙ ap length c.loop-q.invariant.0 ∙ pre.cards;
         deep = omega (arith, pre.deep);
-        slot = room-less c.args.left c.args.k c.loop-q.q (omega (arith, pre.deep)) pre.slot c.loop-q-test.true;
+        slot = room_less c.args.left c.args.k c.loop-q.q (omega (arith, pre.deep)) pre.slot c.loop-q-test.true;
       },
     )
 
@@ -143,7 +143,7 @@ sends t c e good =
     let a = c.args in
     let by = get_or a.statuses.now c.loop-q.q 0 in
     ap (λ (v : ℤ). cond (eqb a.status 1 && eqb by 0) (wrapped' (read_at a.d v)) (back c.wrap-wrapped.result)) e
-    ∙ on-good omh a.d a.status by (back a.word) _ _ _ _ (back_is (sfits_of c.wrap-wrapped.type_inv) ∙ c.wrap-wrapped.ensures ∙ ap wrapped' (back_is c.ranges.own ∙ c.requires.own_value ∙ ap (λ (w : ℤ). omh.read a.d (sent_to a.status w a.table.now a.k a.p)) (sym (back_is c.ranges.word)))) good
+    ∙ on_good omh a.d a.status by (back a.word) _ _ _ _ (back_is (sfits_of c.wrap-wrapped.type_inv) ∙ c.wrap-wrapped.ensures ∙ ap wrapped' (back_is c.ranges.own ∙ c.requires.own_value ∙ ap (λ (w : ℤ). omh.read a.d (sent_to a.status w a.table.now a.k a.p)) (sym (back_is c.ranges.word)))) good
 
 pub over_dealt-loop-q-preserved : goal.over_dealt-loop-q-preserved
 over_dealt-loop-q-preserved t c =
@@ -154,17 +154,17 @@ over_dealt-loop-q-preserved t c =
     elim c.if-members-q.branch [
       | over_dealt-then-members-q w ↦ (
         w.members-is ∙ put_back c.loop-q.members _ q w.if-members-q.true w.vote_dealt-vote.ensures.1 ∙ same,
-        report-more c.loop-q.invariant.1 h (rw (← same) w.if-members-q.true)
+        report_more c.loop-q.invariant.1 h (rw (← same) w.if-members-q.true)
             (back_is (sfits_of w.vote_dealt-vote.type_inv)
             ∙ w.vote_dealt-vote.ensures.0
             ∙ ap (λ (l : List Bool). dealt_vote omh a.statuses.now a.table.now a.p (set l q false) a.left (a.d + 1) (below a.k q) (get_or a.statuses.now q 0) (back w.sent_on-sends.result)) same
-            ∙ vote-sends omh _ _ _ _ _ _ _ _ (λ good.
+            ∙ vote_sends omh _ _ _ _ _ _ _ _ (λ good.
             back_is (sfits_of w.sent_on-sends.type_inv)
             ∙ w.sent_on-sends.ensures
             ∙ sends t (goal.at.over_dealt-loop-q-preserved t c).At-loop-q (back_is (sfits_of w.sent_to-received.type_inv) ∙ w.sent_to-received.ensures) good))
             w.reports-is (w.count-is ∙ ap (λ (x : ℕ). c.loop-q.count + x) w.weight-count-then-members-q.ensures),
       )
-      | over_dealt-else-members-q w ↦ (w.members-is ∙ same, report-same c.loop-q.invariant.1 h (rw (← same) w.if-members-q.false) w.reports-is w.count-is)
+      | over_dealt-else-members-q w ↦ (w.members-is ∙ same, report_same c.loop-q.invariant.1 h (rw (← same) w.if-members-q.false) w.reports-is w.count-is)
     ]
 
 pub over_dealt-slice_bounds-reports-end : goal.over_dealt-slice_bounds-reports-end

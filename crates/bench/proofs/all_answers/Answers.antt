@@ -7,7 +7,7 @@ use lib.IntN.{ℤ}
 use lib.ListN.{length}
 use Rattle.ground.specs.Checks.{verdict}
 use Rattle.ground.proofs.Bits.{back_is}
-use Rattle.ground.proofs.Answers.{outcome-refused, outcome-done}
+use Rattle.ground.proofs.Answers.{outcome-refused, outcome_done}
 use Rattle.ground.proofs.Verdicts.{joined}
 use Rattle.settings.specs.Settings.{turn_checks}
 use Rattle.vote.specs.Vote.{rule_of}
@@ -41,5 +41,5 @@ pub returns : goal.returns
 unfolding answers_asked
 returns c =
     let a = c.args in
-    outcome-done (told (goal.at.returns c).After-first-no) c.if-no-ne0.false _
+    outcome_done (told (goal.at.returns c).After-first-no) c.if-no-ne0.false _
     (c.answer_all.ensures ∙ ap (λ (x : ℤ). answers_of (rule_of a.turn.rack) (exchange a.turn x a.statuses.now a.table.now) a.answers.now) (back_is c.ranges.x))

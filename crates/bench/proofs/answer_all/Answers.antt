@@ -4,8 +4,8 @@ use native.Mathlib.Omega.{arith}
 use borrow.Author.Rules.{sfits_of}
 use lib.IntN.{ℤ}
 use Rattle.ground.proofs.Bits.{back_is}
-use Rattle.ground.proofs.Bools.{chosen-yes, chosen-no}
-use Rattle.ground.proofs.Lists.{passed_none, passed-set, passed-same, passed-all}
+use Rattle.ground.proofs.Bools.{chosen_yes, chosen_no}
+use Rattle.ground.proofs.Lists.{passed_none, passed_set, passed_same, passed_all}
 use Rattle.vote.specs.Vote.{rule_of}
 use Rattle.exchange.specs.Exchange.{exchange}
 use Rattle.bench.specs.Asked.{answers_of}
@@ -36,8 +36,8 @@ pub loop-p-preserved : goal.loop-p-preserved
 loop-p-preserved c =
     let inv = c.loop-p.invariant in
     elim c.if-fits.branch [
-      | then-fits w ↦ passed-set inv c.loop-p-test.true (back_is (sfits_of w.dealt_answer.type_inv) ∙ w.dealt_answer.ensures ∙ chosen-yes _ _ (sym c.fits.ensures ∙ w.if-fits.true)) w.answers-is
-      | else-fits w ↦ passed-same inv c.loop-p-test.true (chosen-no _ _ (sym c.fits.ensures ∙ w.if-fits.false)) w.answers-is
+      | then-fits w ↦ passed_set inv c.loop-p-test.true (back_is (sfits_of w.dealt_answer.type_inv) ∙ w.dealt_answer.ensures ∙ chosen_yes _ _ (sym c.fits.ensures ∙ w.if-fits.true)) w.answers-is
+      | else-fits w ↦ passed_same inv c.loop-p-test.true (chosen_no _ _ (sym c.fits.ensures ∙ w.if-fits.false)) w.answers-is
     ]
 
 pub shape_of-answers : goal.shape_of-answers
@@ -47,5 +47,5 @@ pub returns : goal.returns
 unfolding answers_of
 returns c =
     let a = c.args in
-    passed-all c.loop-p.invariant (λ j h g. absurd (omega (arith, c.loop-p-test.false)))
+    passed_all c.loop-p.invariant (λ j h g. absurd (omega (arith, c.loop-p-test.false)))
     ∙ ap (λ (x : ℤ). answers_of (rule_of a.turn.rack) (exchange a.turn x a.statuses.now a.table.now) a.answers.now) (back_is c.ranges.x)

@@ -8,12 +8,12 @@ use lib.ListN.{length, get_or}
 use Rattle.ground.proofs.Bits.{back, back_is}
 use Rattle.ground.proofs.Lists.{length-table}
 use Rattle.settings.specs.Settings.{turn_of}
-use Rattle.paths.proofs.Handed.{left-few, room-zero}
+use Rattle.paths.proofs.Handed.{left_few, room_zero}
 use Rattle.vote.specs.Vote.{rule_of}
 use Rattle.exchange.specs.Exchange.{exchange, answer_of}
 use Rattle.exchange.specs.Sending.{sent_to}
 use Rattle.bench.specs.Dealing.{dealt_vote}
-use Rattle.bench.proofs.Dealing.{vote-last, vote-more, dealt-answer}
+use Rattle.bench.proofs.Dealing.{vote-last, vote_more, dealt_answer}
 use Rattle.bench.proofs.dealt_answer.Goals as goal
 use Rattle.bench.proofs.dealt_answer.Goals.{After-read_at-own, After-rounds_left-left}
 
@@ -32,7 +32,7 @@ own c =
 answer : (c : After-rounds_left-left) → let a = c.args in dealt_vote (rule_of a.s.rack) a.statuses.now a.table.now a.s.p c.may_relay-members.result c.rounds_left-left.result 0 0 (get_or a.statuses.now a.s.t 0) (back a.x) ≡ answer_of (rule_of a.s.rack) (exchange (turn_of a.s) a.x a.statuses.now a.table.now) a.s.p
 answer c =
     let a = c.args in
-    dealt-answer (rule_of a.s.rack) a.s (back a.x) a.statuses.now a.table.now c.requires.1 c.may_relay-members.ensures c.rounds_left-left.ensures
+    dealt_answer (rule_of a.s.rack) a.s (back a.x) a.statuses.now a.table.now c.requires.1 c.may_relay-members.ensures c.rounds_left-left.ensures
     ∙ ap (λ (x : ℤ). answer_of (rule_of a.s.rack) (exchange (turn_of a.s) x a.statuses.now a.table.now) a.s.p) (back_is c.ranges.x)
 
 pub returns-then-left-eq0 : goal.returns-then-left-eq0
@@ -51,8 +51,8 @@ over_dealt-requires c =
         table_long = given.table_long;
         card = c.requires.2;
         cards = ap length c.may_relay-members.ensures ∙ length-table 10 0 _;
-        deep = omega (arith, c.rounds_left-left.ensures, left-few s 0, c.requires.1);
-        slot = room-zero (c.rounds_left-left.result - 1 + 1);
+        deep = omega (arith, c.rounds_left-left.ensures, left_few s 0, c.requires.1);
+        slot = room_zero (c.rounds_left-left.result - 1 + 1);
       };
       own_value = own (goal.at.over_dealt-requires c).After-read_at-own;
     }
@@ -60,6 +60,6 @@ over_dealt-requires c =
 pub returns : goal.returns
 returns c =
     let a = c.args in
-    vote-more (rule_of a.s.rack) _ _ _ _ _ _ _ _ _ (own (goal.at.returns c).After-read_at-own) c.if-left-eq0.false
+    vote_more (rule_of a.s.rack) _ _ _ _ _ _ _ _ _ (own (goal.at.returns c).After-read_at-own) c.if-left-eq0.false
     (back_is (sfits_of c.over_dealt.type_inv) ∙ c.over_dealt.ensures.0)
     ∙ answer (goal.at.returns c).After-rounds_left-left

@@ -3,7 +3,7 @@ use mathlib.Core.Path.{◌∙◌}
 use native.Mathlib.Omega.{arith}
 use borrow.Author.Rules.{sfits_of}
 use Rattle.ground.proofs.Bits.{back_is}
-use Rattle.exchange.proofs.Dealing.{sent-as, at_first}
+use Rattle.exchange.proofs.Dealing.{sent_as, at_first}
 use Rattle.bench.proofs.sent_to.Goals as goal
 
 pub overflow_mul-first : goal.overflow_mul-first
@@ -29,4 +29,4 @@ returns c =
     let a = c.args in
     back_is (sfits_of c.sent_by.type_inv)
     ∙ c.sent_by.ensures
-    ∙ sent-as a.status (back_is c.ranges.word) (back_is (sfits_of c.sent_by-arg-1.given)) (back_is (sfits_of c.sent_by-arg-2-1.given) ∙ at_first a.table.now a.k)
+    ∙ sent_as a.status (back_is c.ranges.word) (back_is (sfits_of c.sent_by-arg-1.given)) (back_is (sfits_of c.sent_by-arg-2-1.given) ∙ at_first a.table.now a.k)

@@ -7,7 +7,7 @@ use Rattle.ground.specs.Checks.{verdict}
 use Rattle.ground.specs.Answer.{answer}
 use Rattle.ground.proofs.Bits.{back_is}
 use Rattle.book.specs.Book.{book_of}
-use Rattle.book.proofs.Asking.{sized-both}
+use Rattle.book.proofs.Asking.{sized_both}
 use Rattle.book.proofs.held_answer.Goals as goal
 
 pub returns-then-not-is_whole : goal.returns-then-not-is_whole
@@ -15,7 +15,7 @@ unfolding verdict answer
 returns-then-not-is_whole c = rw (← c.is_whole.ensures, c.if-not-is_whole.true-raw)
 
 pub bounds-votes-0 : goal.bounds-votes-0
-bounds-votes-0 c = let a = c.args in omega (arith, (sized-both (book_of a.words.now a.votes.now) (ap not (sym c.is_whole.ensures) ∙ c.if-not-is_whole.false-raw)).votes_long)
+bounds-votes-0 c = let a = c.args in omega (arith, (sized_both (book_of a.words.now a.votes.now) (ap not (sym c.is_whole.ensures) ∙ c.if-not-is_whole.false-raw)).votes_long)
 
 pub returns : goal.returns
 unfolding verdict answer

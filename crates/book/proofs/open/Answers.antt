@@ -2,7 +2,7 @@
 use Prim.Native.Nat.{ℕ}
 use mathlib.Core.Path.{sym, ap, ap₂, ◌∙◌}
 use lib.ListN.{replicate}
-use Rattle.ground.proofs.Answers.{outcome-refused, outcome-done}
+use Rattle.ground.proofs.Answers.{outcome-refused, outcome_done}
 use Rattle.words.specs.Word.{E}
 use Rattle.book.specs.Book.{book_of, opened}
 use Rattle.book.proofs.Asking.{book-asked}
@@ -16,7 +16,7 @@ unfolding opened
 returns c =
     let a = c.before.args in
     let book = (book-asked a.s (book_of a.words.now a.votes.now) (sym c.book_refused-no.ensures ∙ c.if-no-ne0.false)).1 in
-    outcome-done c.book_refused-no.ensures c.if-no-ne0.false _
+    outcome_done c.book_refused-no.ensures c.if-no-ne0.false _
     (ap₂ book_of
     (c.clear.ensures ∙ ap (λ (n : ℕ). replicate n E) book.words_long)
     (c.clear-2.ensures ∙ ap (λ (n : ℕ). replicate n E) book.votes_long))

@@ -1,6 +1,6 @@
 -- `book::open_part` meets its contract: the verdict decides, and the whole list is cleared.
 use mathlib.Core.Path.{sym, ap, ◌∙◌}
-use Rattle.ground.proofs.Answers.{outcome-refused, outcome-done}
+use Rattle.ground.proofs.Answers.{outcome-refused, outcome_done}
 use Rattle.words.specs.Word.{E}
 use Rattle.book.specs.Book.{halves, opened}
 use Rattle.book.proofs.Asking.{book-asked}
@@ -15,4 +15,4 @@ unfolding opened
 returns c =
     let a = c.args in
     let book = (book-asked a.s (halves a.part.now) (sym c.part_refused-no.ensures ∙ c.if-no-ne0.false)).1 in
-    outcome-done c.part_refused-no.ensures c.if-no-ne0.false _ (ap halves c.clear.ensures ∙ halves-same _ E (sized-halves a.part.now book))
+    outcome_done c.part_refused-no.ensures c.if-no-ne0.false _ (ap halves c.clear.ensures ∙ halves-same _ E (sized-halves a.part.now book))

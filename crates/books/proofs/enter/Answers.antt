@@ -7,9 +7,9 @@ use borrow.Author.Tests.{not-false}
 use lib.IntN.{ℤ}
 use Rattle.ground.specs.Checks.{verdict}
 use Rattle.ground.proofs.Answers.{outcome-refused}
-use Rattle.ground.proofs.Parts.{part-lent}
+use Rattle.ground.proofs.Parts.{part_lent}
 use Rattle.ground.proofs.Bits.{back_is}
-use Rattle.ground.proofs.Verdicts.{still-refused}
+use Rattle.ground.proofs.Verdicts.{still_refused}
 use Rattle.vote.specs.Vote.{rule_of}
 use Rattle.book.specs.Book.{halves}
 use Rattle.book.specs.Asked.{slot_checks}
@@ -17,7 +17,7 @@ use Rattle.entering.specs.Entered.{entered}
 use Rattle.entering.specs.Asked.{enter_asked}
 use Rattle.books.specs.Books.{book_from, books_checks}
 use Rattle.books.specs.Asked.{books_enter_asked}
-use Rattle.books.proofs.Parts.{Has, has-it, has-not, part_in, same_then, part-call}
+use Rattle.books.proofs.Parts.{Has, has_it, has_not, part_in, same_then, part_call}
 use Rattle.books.proofs.enter.Goals as goal
 use Rattle.books.proofs.enter.Goals.{After-start_of-from, Else-not-has_part}
 
@@ -26,19 +26,19 @@ unfolding books_enter_asked
 returns-then-not-has_part c =
     let a = c.args in
     let none : c.books_refused.result ≡ 0 → ⊥ =
-    λ z. has-not a.s a.books.now (sym c.has_part.ensures ∙ c.if-not-has_part.true) (sym c.books_refused.ensures ∙ z) in
-    outcome-refused (still-refused (books_checks a.s a.books.now) _ tt c.books_refused.ensures none) none _ _
+    λ z. has_not a.s a.books.now (sym c.has_part.ensures ∙ c.if-not-has_part.true) (sym c.books_refused.ensures ∙ z) in
+    outcome-refused (still_refused (books_checks a.s a.books.now) _ tt c.books_refused.ensures none) none _ _
 
 -- the sender has a part
 has : (c : Else-not-has_part) → let a = c.args in Has a.s.t a.books.now
-has c = has-it (sym c.has_part.ensures ∙ not-false _ c.if-not-has_part.false-raw)
+has c = has_it (sym c.has_part.ensures ∙ not-false _ c.if-not-has_part.false-raw)
 
 pub start_of-from-requires : goal.start_of-from-requires
 start_of-from-requires c = (has c).sender
 
 -- where its part starts
 starts : (c : After-start_of-from) → c.start_of-from.result < 22220
-starts c = let h = has-it {t = c.args.s.t} {l = c.args.books.now} (sym c.has_part.ensures ∙ not-false _ c.if-not-has_part.false-raw) in omega (arith, c.start_of-from.ensures, h.sender)
+starts c = let h = has_it {t = c.args.s.t} {l = c.args.books.now} (sym c.has_part.ensures ∙ not-false _ c.if-not-has_part.false-raw) in omega (arith, c.start_of-from.ensures, h.sender)
 
 pub overflow_add-from : goal.overflow_add-from
 overflow_add-from c = omega (arith, starts c)
@@ -54,6 +54,6 @@ unfolding books_enter_asked
 returns c =
     let a = c.args in
     let l = a.books.now in
-    part-call (has (goal.at.returns c).Else-not-has_part) (entered (rule_of a.s.rack) a.s (book_from a.s.t l) a.slot a.word) c.enter_part.new.part (verdict (slot_checks a.s (book_from a.s.t l) a.slot)) c.start_of-from.ensures
-    (c.enter_part.ensures ∙ ap₂ (λ (p : List ℤ) (w : ℤ). enter_asked a.s (halves p) a.slot w) (part-lent 2222 a.s.t l c.start_of-from.ensures) (back_is c.ranges.word))
+    part_call (has (goal.at.returns c).Else-not-has_part) (entered (rule_of a.s.rack) a.s (book_from a.s.t l) a.slot a.word) c.enter_part.new.part (verdict (slot_checks a.s (book_from a.s.t l) a.slot)) c.start_of-from.ensures
+    (c.enter_part.ensures ∙ ap₂ (λ (p : List ℤ) (w : ℤ). enter_asked a.s (halves p) a.slot w) (part_lent 2222 a.s.t l c.start_of-from.ensures) (back_is c.ranges.word))
     (same_then (has (goal.at.returns c).Else-not-has_part) a.s _)

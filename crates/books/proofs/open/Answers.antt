@@ -7,13 +7,13 @@ use borrow.Author.Tests.{not-false}
 use lib.IntN.{ℤ}
 use Rattle.ground.specs.Checks.{verdict}
 use Rattle.ground.proofs.Answers.{outcome-refused}
-use Rattle.ground.proofs.Parts.{part-lent}
+use Rattle.ground.proofs.Parts.{part_lent}
 use Rattle.vote.specs.Vote.{rule_of}
 use Rattle.book.specs.Book.{halves, opened}
 use Rattle.book.specs.Asked.{book_checks, open_asked}
 use Rattle.books.specs.Books.{book_from}
 use Rattle.books.specs.Asked.{books_open_asked}
-use Rattle.books.proofs.Parts.{Has, has-it, has-not, part_in, same-verdict, part-call}
+use Rattle.books.proofs.Parts.{Has, has_it, has_not, part_in, same-verdict, part_call}
 use Rattle.books.proofs.open.Goals as goal
 use Rattle.books.proofs.open.Goals.{After-start_of-from, Else-not-has_part}
 
@@ -21,18 +21,18 @@ pub returns-then-not-has_part : goal.returns-then-not-has_part
 unfolding books_open_asked
 returns-then-not-has_part c =
     let a = c.args in
-    outcome-refused c.books_refused.ensures (λ z. has-not a.s a.books.now (sym c.has_part.ensures ∙ c.if-not-has_part.true) (sym c.books_refused.ensures ∙ z)) _ _
+    outcome-refused c.books_refused.ensures (λ z. has_not a.s a.books.now (sym c.has_part.ensures ∙ c.if-not-has_part.true) (sym c.books_refused.ensures ∙ z)) _ _
 
 -- the sender has a part
 has : (c : Else-not-has_part) → let a = c.args in Has a.s.t a.books.now
-has c = has-it (sym c.has_part.ensures ∙ not-false _ c.if-not-has_part.false-raw)
+has c = has_it (sym c.has_part.ensures ∙ not-false _ c.if-not-has_part.false-raw)
 
 pub start_of-from-requires : goal.start_of-from-requires
 start_of-from-requires c = (has c).sender
 
 -- where its part starts
 starts : (c : After-start_of-from) → c.start_of-from.result < 22220
-starts c = let h = has-it {t = c.args.s.t} {l = c.args.books.now} (sym c.has_part.ensures ∙ not-false _ c.if-not-has_part.false-raw) in omega (arith, c.start_of-from.ensures, h.sender)
+starts c = let h = has_it {t = c.args.s.t} {l = c.args.books.now} (sym c.has_part.ensures ∙ not-false _ c.if-not-has_part.false-raw) in omega (arith, c.start_of-from.ensures, h.sender)
 
 pub overflow_add-from : goal.overflow_add-from
 overflow_add-from c = omega (arith, starts c)
@@ -48,6 +48,6 @@ unfolding books_open_asked
 returns c =
     let a = c.args in
     let l = a.books.now in
-    part-call (has (goal.at.returns c).Else-not-has_part) (opened (rule_of a.s.rack)) c.open_part.new.part (verdict (book_checks a.s (book_from a.s.t l))) c.start_of-from.ensures
-    (c.open_part.ensures ∙ ap (λ (p : List ℤ). open_asked a.s (halves p)) (part-lent 2222 a.s.t l c.start_of-from.ensures))
+    part_call (has (goal.at.returns c).Else-not-has_part) (opened (rule_of a.s.rack)) c.open_part.new.part (verdict (book_checks a.s (book_from a.s.t l))) c.start_of-from.ensures
+    (c.open_part.ensures ∙ ap (λ (p : List ℤ). open_asked a.s (halves p)) (part_lent 2222 a.s.t l c.start_of-from.ensures))
     (same-verdict (has (goal.at.returns c).Else-not-has_part) a.s)

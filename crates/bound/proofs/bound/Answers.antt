@@ -2,9 +2,9 @@
 use Prim.Native.Nat.{◌≤◌}
 use native.Mathlib.Omega.{arith}
 use Rattle.ground.proofs.Answers.{answer-refused}
-use Rattle.ground.proofs.Lists.{counted-few}
+use Rattle.ground.proofs.Lists.{counted_few}
 use Rattle.bound.specs.Bound.{bound_asked}
-use Rattle.bound.proofs.Asking.{bound-asked, bound-told}
+use Rattle.bound.proofs.Asking.{bound-asked, bound_told}
 use Rattle.bound.proofs.bound.Goals as goal
 use Rattle.bound.proofs.bound.Goals.{After-count_of-c}
 
@@ -17,7 +17,7 @@ few : (c : After-count_of-c) → (c.count_of-a.result ≤ 10) × (c.count_of-s.r
 few c =
     let a = c.args in
     let given = bound-asked a.rack a.statuses.now c.bound_refused-no.ensures c.if-no-ne0.false in
-    (counted-few _ 10 c.count_of-a.ensures, counted-few _ 10 c.count_of-s.ensures, counted-few _ 10 c.count_of-c.ensures, given.0.deep)
+    (counted_few _ 10 c.count_of-a.ensures, counted_few _ 10 c.count_of-s.ensures, counted_few _ 10 c.count_of-c.ensures, given.0.deep)
 
 pub overflow_mul-a : goal.overflow_mul-a
 overflow_mul-a c = let h = few c in omega arith
@@ -37,11 +37,11 @@ overflow_add-a-3 c = let h = few c in omega arith
 pub returns-then-a-s : goal.returns-then-a-s
 returns-then-a-s c =
     let a = c.args in
-    bound-told a.rack a.statuses.now c.bound_refused-no.ensures c.if-no-ne0.false
+    bound_told a.rack a.statuses.now c.bound_refused-no.ensures c.if-no-ne0.false
     c.count_of-a.ensures c.count_of-s.ensures c.count_of-c.ensures c.cards.ensures c.if-a-s.true
 
 pub returns : goal.returns
 returns c =
     let a = c.args in
-    bound-told a.rack a.statuses.now c.bound_refused-no.ensures c.if-no-ne0.false
+    bound_told a.rack a.statuses.now c.bound_refused-no.ensures c.if-no-ne0.false
     c.count_of-a.ensures c.count_of-s.ensures c.count_of-c.ensures c.cards.ensures c.if-a-s.false

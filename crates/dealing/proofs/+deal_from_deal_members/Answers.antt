@@ -10,8 +10,8 @@ use lib.ListN.{length, length-set, get_or}
 use Rattle.ground.proofs.Bits.{back, back_is}
 use Rattle.words.specs.Word.{read_at, wrapped}
 use Rattle.words.specs.Rule.{omh}
-use Rattle.exchange.proofs.Dealing.{sent-as, at_first, on-good}
-use Rattle.dealing.proofs.DealOrder.{deals-small, deals-below, deal-last, deal-more, below-first, below_more, below-same, below_all}
+use Rattle.exchange.proofs.Dealing.{sent_as, at_first, on_good}
+use Rattle.dealing.proofs.DealOrder.{deals_small, deals_below, deal_last, deal_more, below-first, below_more, below-same, below_all}
 use Rattle.dealing.proofs.+deal_from_deal_members.Goals as goal
 use Rattle.dealing.proofs.+deal_from_deal_members.Goals.{deal_from-then-left-gt0, deal_from-else-left-gt0, deal_members-then-members-q, deal_members-else-members-q}
 
@@ -24,10 +24,10 @@ pub deal_from-returns : goal.deal_from-returns
 deal_from-returns t c =
     let a = c.args in
     let e = back_is c.ranges.word in
-    let v = back_is (sfits_of c.sent_by.type_inv) ∙ c.sent_by.ensures ∙ sent-as a.status e (back_is (sfits_of c.sent_by-arg-1.given)) (back_is (sfits_of c.sent_by-arg-2-1.given) ∙ at_first a.table.now a.k) in
+    let v = back_is (sfits_of c.sent_by.type_inv) ∙ c.sent_by.ensures ∙ sent_as a.status e (back_is (sfits_of c.sent_by-arg-1.given)) (back_is (sfits_of c.sent_by-arg-2-1.given) ∙ at_first a.table.now a.k) in
     elim c.if-left-gt0.branch [
-      | deal_from-then-left-gt0 w ↦ deal-more v w.if-left-gt0.true e w.deal_members.ensures w.words-is w.members-is
-      | deal_from-else-left-gt0 w ↦ deal-last v w.if-left-gt0.false w.words-is w.members-is
+      | deal_from-then-left-gt0 w ↦ deal_more v w.if-left-gt0.true e w.deal_members.ensures w.words-is w.members-is
+      | deal_from-else-left-gt0 w ↦ deal_last v w.if-left-gt0.false w.words-is w.members-is
     ]
 
 pub deal_members-loop-q-init : goal.deal_members-loop-q-init
@@ -35,7 +35,7 @@ deal_members-loop-q-init t c = (omega arith, c.requires.words_long, below-first)
 
 pub deal_members-deal_from-requires : goal.deal_members-deal_from-requires
 deal_members-deal_from-requires t c =
-    (omega arith, deals-below _ c.requires c.loop-q-test.true c.loop-q.invariant.1 (length-set c.loop-q.members _ _ ∙ ap length c.loop-q.invariant.2.members))
+    (omega arith, deals_below _ c.requires c.loop-q-test.true c.loop-q.invariant.1 (length-set c.loop-q.members _ _ ∙ ap length c.loop-q.invariant.2.members))
 
 pub deal_members-loop-q-preserved : goal.deal_members-loop-q-preserved
 deal_members-loop-q-preserved t c =
@@ -51,12 +51,12 @@ deal_members-loop-q-preserved t c =
         omega arith,
         ap length w.words-is ∙ w.deal_from.auto.words ∙ inv.1,
         -- a good card sends on what it received
-        below_more inv.2 (deals-small _ pre) pre.here h w.if-members-q.true
+        below_more inv.2 (deals_small _ pre) pre.here h w.if-members-q.true
             (λ good.
             back_is (sfits_of w.sent_on.type_inv)
             ∙ w.sent_on.ensures
-            ∙ ap (λ (v : ℤ). cond (eqb a.status 1 && eqb by 0) (relayed v) (back c.relayed-told.result)) (back_is (sfits_of w.sent_by-received.type_inv) ∙ w.sent_by-received.ensures ∙ sent-as a.status refl (back_is (sfits_of w.sent_by-arg-1.given)) zero)
-            ∙ on-good omh a.d a.status by (back a.word) _ _ _ _ (back_is (sfits_of c.relayed-told.type_inv) ∙ c.relayed-told.ensures ∙ ap relayed (back_is (sfits_of c.sent_by.type_inv) ∙ c.sent_by.ensures ∙ sent-as a.status refl zero zero)) good)
+            ∙ ap (λ (v : ℤ). cond (eqb a.status 1 && eqb by 0) (relayed v) (back c.relayed-told.result)) (back_is (sfits_of w.sent_by-received.type_inv) ∙ w.sent_by-received.ensures ∙ sent_as a.status refl (back_is (sfits_of w.sent_by-arg-1.given)) zero)
+            ∙ on_good omh a.d a.status by (back a.word) _ _ _ _ (back_is (sfits_of c.relayed-told.type_inv) ∙ c.relayed-told.ensures ∙ ap relayed (back_is (sfits_of c.sent_by.type_inv) ∙ c.sent_by.ensures ∙ sent_as a.status refl zero zero)) good)
             w.deal_from.ensures w.words-is w.members-is,
       )
       | deal_members-else-members-q w ↦ (omega arith, ap length w.words-is ∙ inv.1, below-same inv.2 w.if-members-q.false w.words-is w.members-is)

@@ -11,7 +11,7 @@ use Rattle.words.specs.Word.{wrapped, read_at}
 use Rattle.words.specs.Rule.{omh}
 use Rattle.paths.specs.Slots.{level as level'}
 use Rattle.exchange.specs.Exchange.{Exchange, exchange, status_of, sent, dealt}
-use Rattle.exchange.proofs.Dealing.{sent-as, at_first, dealt-first, dealt-next}
+use Rattle.exchange.proofs.Dealing.{sent_as, at_first, dealt-first, dealt-next}
 use Rattle.exchange.specs.Sending.{sent_to}
 use Rattle.dealing.proofs.+dealt_at.Goals as goal
 use Rattle.dealing.proofs.+dealt_at.Goals.{After-first-1}
@@ -41,16 +41,16 @@ pub bounds-statuses-t : goal.bounds-statuses-t
 bounds-statuses-t t c = let given = c.requires.0 in omega (arith, given.sender, given.statuses_long)
 
 -- the table's two words are those of the definition
-from-table : (t : ℕ) (c : After-first-1 t) (status : ℕ) {v w : ℤ} → v ≡ w → let a = c.args in sent (status_of status) v (back (at a.table.now (10 * a.k + a.p))) (back (at a.table.now (10 * a.k))) ≡ sent_to status w a.table.now a.k a.p
-from-table t c status e =
+from_table : (t : ℕ) (c : After-first-1 t) (status : ℕ) {v w : ℤ} → v ≡ w → let a = c.args in sent (status_of status) v (back (at a.table.now (10 * a.k + a.p))) (back (at a.table.now (10 * a.k))) ≡ sent_to status w a.table.now a.k a.p
+from_table t c status e =
     let a = c.args in
-    sent-as status e (back_is (sfits_of c.own-1.given)) (back_is (sfits_of c.first-1.given) ∙ at_first a.table.now a.k)
+    sent_as status e (back_is (sfits_of c.own-1.given)) (back_is (sfits_of c.first-1.given) ∙ at_first a.table.now a.k)
 
 pub returns-then-k-eq0 : goal.returns-then-k-eq0
 returns-then-k-eq0 t c rack =
     let a = c.args in
     dealt-first omh (exchange (record { rack = rack; t = a.t }) a.x a.statuses.now a.table.now) a.k a.p c.if-k-eq0.true refl
-    (back_is (sfits_of c.sent_by.type_inv) ∙ c.sent_by.ensures ∙ from-table t (goal.at.returns-then-k-eq0 t c).After-first-1 _ (back_is c.ranges.x))
+    (back_is (sfits_of c.sent_by.type_inv) ∙ c.sent_by.ensures ∙ from_table t (goal.at.returns-then-k-eq0 t c).After-first-1 _ (back_is c.ranges.x))
 
 pub dealt_at-word-requires : goal.dealt_at-word-requires
 dealt_at-word-requires t c =
@@ -76,5 +76,5 @@ returns t c rack =
     ∙ ap₂ (dealt omh (X a.x)) c.above-above.ensures c.last_relay-q.ensures)))
     (back_is (sfits_of c.sent_by-2.type_inv)
     ∙ c.sent_by-2.ensures
-    ∙ from-table t (goal.at.returns t c).After-first-1 _ refl
+    ∙ from_table t (goal.at.returns t c).After-first-1 _ refl
     ∙ ap (λ (q : ℕ). sent_to (get_or a.statuses.now q 0) (back c.relayed-sends.result) a.table.now a.k a.p) c.last_relay-q.ensures)

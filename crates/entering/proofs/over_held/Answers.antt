@@ -6,12 +6,12 @@ use borrow.Author.Rules.{sfits_of}
 use lib.Seq.{length-take-le}
 use Rattle.ground.proofs.Bits.{back, back_is}
 use Rattle.words.specs.Rule.{omh}
-use Rattle.vote.proofs.Gather.{inside, report-first, report-more, report-same, weighs, decides}
+use Rattle.vote.proofs.Gather.{inside, report_first, report_more, report_same, weighs, decides}
 use Rattle.entering.proofs.over_held.Goals as goal
 use Rattle.entering.proofs.over_held.Goals.{then-members-q, else-members-q}
 
 pub loop-q-init : goal.loop-q-init
-loop-q-init c = report-first _ _ _ _ refl c.weight-count.ensures
+loop-q-init c = report_first _ _ _ _ refl c.weight-count.ensures
 
 pub bounds-members-q : goal.bounds-members-q
 bounds-members-q c = c.loop-q-test.true
@@ -51,8 +51,8 @@ loop-q-preserved c =
     let loop = c.loop-q in
     let h = c.loop-q-test.true in
     elim c.if-members-q.branch [
-      | then-members-q w ↦ report-more loop.invariant h w.if-members-q.true (back_is (sfits_of w.read_at-vote.type_inv) ∙ w.read_at-vote.ensures ∙ ap (omh.read _) (back_is (sfits_of w.read_at-arg-1.given))) w.reports-is (w.count-is ∙ ap (λ (x : ℕ). loop.count + x) w.weight-count-then-members-q.ensures)
-      | else-members-q w ↦ report-same loop.invariant h w.if-members-q.false w.reports-is w.count-is
+      | then-members-q w ↦ report_more loop.invariant h w.if-members-q.true (back_is (sfits_of w.read_at-vote.type_inv) ∙ w.read_at-vote.ensures ∙ ap (omh.read _) (back_is (sfits_of w.read_at-arg-1.given))) w.reports-is (w.count-is ∙ ap (λ (x : ℕ). loop.count + x) w.weight-count-then-members-q.ensures)
+      | else-members-q w ↦ report_same loop.invariant h w.if-members-q.false w.reports-is w.count-is
     ]
 
 pub slice_bounds-reports-end : goal.slice_bounds-reports-end

@@ -7,7 +7,7 @@ use Rattle.words.specs.Rule.{omh}
 use Rattle.ground.proofs.Bits.{back, back_is}
 use Rattle.vote.specs.Vote.{decided}
 use Rattle.entering.specs.Remaking.{held_votes}
-use Rattle.entering.proofs.Leaf.{made-last, made_more}
+use Rattle.entering.proofs.Leaf.{made_last, made_more}
 use Rattle.entering.proofs.remake.Goals as goal
 use Rattle.entering.proofs.remake.Goals.{After-read_at-own}
 
@@ -18,7 +18,7 @@ own c = back_is (sfits_of c.read_at-own.type_inv) ∙ c.read_at-own.ensures ∙ 
 pub returns-then-left-eq0 : goal.returns-then-left-eq0
 returns-then-left-eq0 c =
     let a = c.args in
-    own (goal.at.returns-then-left-eq0 c).After-read_at-own ∙ sym (made-last omh _ _ _ a.left a.d a.k c.if-left-eq0.true)
+    own (goal.at.returns-then-left-eq0 c).After-read_at-own ∙ sym (made_last omh _ _ _ a.left a.d a.k c.if-left-eq0.true)
 
 pub over_held-requires : goal.over_held-requires
 over_held-requires c = let pre = c.requires in (pre.votes_whole, pre.cards, pre.inner c.if-left-eq0.false)

@@ -8,7 +8,7 @@ use lib.ListN.{length, set}
 use Rattle.ground.proofs.Bits.{back_is}
 use Rattle.settings.specs.Settings.{slots}
 use Rattle.entering.specs.Remaking.{Remakes}
-use Rattle.entering.proofs.Steps.{Climbs, first-asks, climb-first, climb-asks, climb-level, climb-more, climb-done}
+use Rattle.entering.proofs.Steps.{Climbs, first_asks, climb_first, climb_asks, climb_level, climb_more, climb_done}
 use Rattle.entering.proofs.walk_up.Goals as goal
 use Rattle.entering.proofs.walk_up.Goals.{After-above-k, After-rounds_left-left, At-loop-k, In-loop-k}
 
@@ -17,7 +17,7 @@ bounds-words-0 c = omega arith
 
 -- what the re-making at the entered slot is asked
 asks : (c : After-rounds_left-left) → let a = c.args in Remakes a.votes.now a.members.now c.rounds_left-left.result c.level_of-d.result a.slot
-asks c = first-asks c.requires c.level_of-d.ensures c.rounds_left-left.ensures
+asks c = first_asks c.requires c.level_of-d.ensures c.rounds_left-left.ensures
 
 pub remake-first-requires : goal.remake-first-requires
 remake-first-requires c = asks (goal.at.remake-first-requires c).After-rounds_left-left
@@ -36,7 +36,7 @@ here : (c : At-loop-k) → let a = c.args in Climbs a.s a.words.now a.votes.now 
 here c =
     let start = c in
     c.loop-k.invariant start.args.s start.args.votes.now
-    (climb-first start.requires c.level_of-d.ensures c.rounds_left-left.ensures (back_is (sfits_of c.remake-first.type_inv) ∙ c.remake-first.ensures) (back_is (sfits_of c.remake-arg-1.given)))
+    (climb_first start.requires c.level_of-d.ensures c.rounds_left-left.ensures (back_is (sfits_of c.remake-first.type_inv) ∙ c.remake-first.ensures) (back_is (sfits_of c.remake-arg-1.given)))
 
 going : (c : In-loop-k) → 0 < c.loop-k.k
 going c = omega arith
@@ -45,7 +45,7 @@ pub bounds-members-last_relay : goal.bounds-members-last_relay
 bounds-members-last_relay c = omega (arith, c.last_relay.ensures, (here (goal.at.bounds-members-last_relay c).At-loop-k).cards)
 
 pub overflow_sub-d : goal.overflow_sub-d
-overflow_sub-d c = omega (arith, climb-level (here (goal.at.overflow_sub-d c).At-loop-k) (going (goal.at.overflow_sub-d c).In-loop-k))
+overflow_sub-d c = omega (arith, climb_level (here (goal.at.overflow_sub-d c).At-loop-k) (going (goal.at.overflow_sub-d c).In-loop-k))
 
 pub overflow_add-i : goal.overflow_add-i
 overflow_add-i c = omega (arith, (here (goal.at.overflow_add-i c).At-loop-k).short)
@@ -54,31 +54,31 @@ pub offset_bounds-words-i : goal.offset_bounds-words-i
 offset_bounds-words-i c = omega (arith, (here (goal.at.offset_bounds-words-i c).At-loop-k).short)
 
 pub bounds-words-i : goal.bounds-words-i
-bounds-words-i c = omega (arith, (here (goal.at.bounds-words-i c).At-loop-k).short, climb-level (here (goal.at.bounds-words-i c).At-loop-k) (going (goal.at.bounds-words-i c).In-loop-k))
+bounds-words-i c = omega (arith, (here (goal.at.bounds-words-i c).At-loop-k).short, climb_level (here (goal.at.bounds-words-i c).At-loop-k) (going (goal.at.bounds-words-i c).In-loop-k))
 
 -- what is asked of the votes and cards one step up
-up-asks : (c : After-above-k) → let loop = c.loop-k in (length loop.votes ≡ slots) × (length (set loop.members c.last_relay.result true) ≡ 10) × (c.above-k.result < 111)
-up-asks c =
-    climb-asks (here c.before.before.before.before) (going c.before.before.before) c.last_relay.ensures c.above-k.ensures
+up_asks : (c : After-above-k) → let loop = c.loop-k in (length loop.votes ≡ slots) × (length (set loop.members c.last_relay.result true) ≡ 10) × (c.above-k.result < 111)
+up_asks c =
+    climb_asks (here c.before.before.before.before) (going c.before.before.before) c.last_relay.ensures c.above-k.ensures
 
 pub overflow_add-d : goal.overflow_add-d
 overflow_add-d c = omega (arith, (here (goal.at.overflow_add-d c).At-loop-k).short)
 
 pub over_held-vote-requires : goal.over_held-vote-requires
-over_held-vote-requires c = up-asks (goal.at.over_held-vote-requires c).After-above-k
+over_held-vote-requires c = up_asks (goal.at.over_held-vote-requires c).After-above-k
 
 pub offset_bounds-votes-k : goal.offset_bounds-votes-k
-offset_bounds-votes-k c = omega (arith, (up-asks (goal.at.offset_bounds-votes-k c).After-above-k).2)
+offset_bounds-votes-k c = omega (arith, (up_asks (goal.at.offset_bounds-votes-k c).After-above-k).2)
 
 pub bounds-votes-k : goal.bounds-votes-k
-bounds-votes-k c = let up = up-asks (goal.at.bounds-votes-k c).After-above-k in omega (arith, up.0, up.2)
+bounds-votes-k c = let up = up_asks (goal.at.bounds-votes-k c).After-above-k in omega (arith, up.0, up.2)
 
 pub loop-k-smaller : goal.loop-k-smaller
 loop-k-smaller c = omega (arith, c.above-k.ensures)
 
 pub loop-k-preserved : goal.loop-k-preserved
 loop-k-preserved c =
-    λ s vs b. climb-more (c.loop-k.invariant s vs b) (going (goal.at.loop-k-preserved c).In-loop-k) c.last_relay.ensures c.above-k.ensures
+    λ s vs b. climb_more (c.loop-k.invariant s vs b) (going (goal.at.loop-k-preserved c).In-loop-k) c.last_relay.ensures c.above-k.ensures
     (back_is (sfits_of c.over_held-vote.type_inv) ∙ c.over_held-vote.ensures) (back_is (sfits_of c.read_at-own.type_inv) ∙ c.read_at-own.ensures) (back_is (sfits_of c.read_at-arg-1.given))
 
 pub shape_of-votes : goal.shape_of-votes
@@ -86,4 +86,4 @@ shape_of-votes c =
     (here (goal.at.shape_of-votes c).At-loop-k).votes_whole ∙ sym c.requires.votes_whole
 
 pub returns : goal.returns
-returns c = climb-done (here (goal.at.returns c).At-loop-k) c.loop-k-test.false
+returns c = climb_done (here (goal.at.returns c).At-loop-k) c.loop-k-test.false

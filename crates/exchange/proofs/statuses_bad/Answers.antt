@@ -2,14 +2,14 @@
 use mathlib.Core.Path.{sym, ◌∙◌}
 use native.Mathlib.Omega.{arith}
 use borrow.Author.Count.{below_more}
-use Rattle.exchange.proofs.Statuses.{all-fine, one-bad}
+use Rattle.exchange.proofs.Statuses.{all_fine, one_bad}
 use Rattle.exchange.proofs.statuses_bad.Goals as goal
 
 pub loop-q-init : goal.loop-q-init
 loop-q-init c = (omega arith, λ j h. absurd (omega arith))
 
 pub returns-then-status_bad : goal.returns-then-status_bad
-returns-then-status_bad c = sym (one-bad _ _ _ c.loop-q-test.true (sym c.status_bad.ensures ∙ c.if-status_bad.true))
+returns-then-status_bad c = sym (one_bad _ _ _ c.loop-q-test.true (sym c.status_bad.ensures ∙ c.if-status_bad.true))
 
 pub overflow_step-q : goal.overflow_step-q
 overflow_step-q c = omega arith
@@ -22,4 +22,4 @@ loop-q-preserved c =
     (omega arith, below_more _ _ c.loop-q.invariant.1 (sym c.status_bad.ensures ∙ c.if-status_bad.false))
 
 pub returns : goal.returns
-returns c = sym (all-fine _ _ (λ q h. c.loop-q.invariant.1 q (omega arith)))
+returns c = sym (all_fine _ _ (λ q h. c.loop-q.invariant.1 q (omega arith)))

@@ -6,20 +6,20 @@ use borrow.Author.Rules.{sfits_of}
 use lib.IntN.{ℤ}
 use Rattle.ground.specs.Checks.{verdict}
 use Rattle.ground.proofs.Bits.{back_is}
-use Rattle.ground.proofs.Verdicts.{alone, joined, rest-decides, still-refused}
+use Rattle.ground.proofs.Verdicts.{alone, joined, rest_decides, still_refused}
 use Rattle.settings.specs.Settings.{turn_checks}
 use Rattle.exchange.specs.Asked.{status_checks}
 use Rattle.files.specs.File.{statuses, shape_checks, exchange_checks}
 use Rattle.files.specs.declared.Head.{Head}
-use Rattle.files.proofs.Good.{head-there}
+use Rattle.files.proofs.Good.{head_there}
 use Rattle.files.proofs.refused.Goals as goal
 
 pub returns-then-no-ne0 : goal.returns-then-no-ne0
-returns-then-no-ne0 c = still-refused (shape_checks c.args.file.now) _ tt c.shape_refused-no.ensures c.if-no-ne0.true
+returns-then-no-ne0 c = still_refused (shape_checks c.args.file.now) _ tt c.shape_refused-no.ensures c.if-no-ne0.true
 
 pub slice_bounds-statuses_refused-end : goal.slice_bounds-statuses_refused-end
 slice_bounds-statuses_refused-end c =
-    omega (arith, head-there c.args.file.now (sym c.shape_refused-no.ensures ∙ c.if-no-ne0.false))
+    omega (arith, head_there c.args.file.now (sym c.shape_refused-no.ensures ∙ c.if-no-ne0.false))
 
 pub returns : goal.returns
 returns c =
@@ -31,4 +31,4 @@ returns c =
     ∙ ap (λ (h : Head). verdict (turn_checks h.turn ++ status_checks h.turn.rack h.x (statuses file))) c.requires
     in
     joined (exchange_checks file) _ tt c.first.ensures exchange-is (alone 16 c.when.ensures c.exceptions_bad.ensures)
-    ∙ sym (rest-decides (shape_checks file) _ tt (sym c.shape_refused-no.ensures ∙ c.if-no-ne0.false))
+    ∙ sym (rest_decides (shape_checks file) _ tt (sym c.shape_refused-no.ensures ∙ c.if-no-ne0.false))

@@ -5,15 +5,6 @@ use Rattle.ground.specs.Bytes.{bits32, bytes16, bytes32}
 use Rattle.frames.specs.Frame.{bytes_of}
 use Rattle.frames.proofs.bytes_of.Goals as goal
 
--- LEFT array-read-t8 : tie.Need-array-read-t8
--- LEFT array-read-t8 c = search rules
-
--- LEFT array-read-t12 : tie.Need-array-read-t12
--- LEFT array-read-t12 c = search rules
-
--- LEFT array-read-t16 : tie.Need-array-read-t16
--- LEFT array-read-t16 c = search rules
-
 pub returns : goal.returns
 unfolding bytes_of bytes16 bytes32
 returns c =

@@ -1,7 +1,7 @@
 -- `frames::refused` meets its contract: each return is a verdict of `read_checks`.
 use mathlib.Core.Path.{ap, ◌∙◌}
 use Rattle.frames.specs.Frame.{well_formed}
-use Rattle.frames.proofs.Asking.{by_size, by-mark, by-version, by_form, unrefused}
+use Rattle.frames.proofs.Asking.{by_size, by_mark, by_version, by_form, unrefused}
 use Rattle.frames.proofs.refused.Goals as goal
 
 pub returns-then-s-ne-SIZE : goal.returns-then-s-ne-SIZE
@@ -9,11 +9,11 @@ returns-then-s-ne-SIZE c = by_size c.args.s.now c.if-s-ne-SIZE.true
 
 pub returns-then-not-starts_with : goal.returns-then-not-starts_with
 returns-then-not-starts_with c =
-    by-mark _ c.if-s-ne-SIZE.false c.starts_with.ensures c.if-not-starts_with.true-raw
+    by_mark _ c.if-s-ne-SIZE.false c.starts_with.ensures c.if-not-starts_with.true-raw
 
 pub returns-then-get16-ne-VERSION : goal.returns-then-get16-ne-VERSION
 returns-then-get16-ne-VERSION c =
-    by-version _ c.if-s-ne-SIZE.false c.starts_with.ensures c.if-not-starts_with.false-raw c.get16.ensures c.if-get16-ne-VERSION.true
+    by_version _ c.if-s-ne-SIZE.false c.starts_with.ensures c.if-not-starts_with.false-raw c.get16.ensures c.if-get16-ne-VERSION.true
 
 pub returns-then-not-well_formed : goal.returns-then-not-well_formed
 returns-then-not-well_formed c =

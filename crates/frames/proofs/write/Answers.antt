@@ -3,8 +3,8 @@ use mathlib.Core.Path.{◌≡◌, sym, ap, ◌∙◌}
 use mathlib.Core.Bool.{not}
 use borrow.Author.Tests.{eqb-true, not-false}
 use Rattle.ground.specs.Checks.{verdict}
-use Rattle.ground.proofs.Answers.{outcome-refused, outcome-done}
-use Rattle.ground.proofs.Verdicts.{no-verdict, alone, joined}
+use Rattle.ground.proofs.Answers.{outcome-refused, outcome_done}
+use Rattle.ground.proofs.Verdicts.{no_verdict, alone, joined}
 use Rattle.frames.specs.Asked.{write_checks, write_asked}
 use Rattle.frames.proofs.write.Goals as goal
 use Rattle.frames.proofs.write.Goals.{After-first-no}
@@ -21,9 +21,9 @@ returns-then-no-ne0 c = outcome-refused (told (goal.at.returns-then-no-ne0 c).Af
 pub put-requires : goal.put-requires
 put-requires c =
     let a = c.args in
-    eqb-true _ _ (not-false _ (no-verdict (write_checks a.frame a.buffer.now) tt (sym (told (goal.at.put-requires c).After-first-no) ∙ c.if-no-ne0.false)).0)
+    eqb-true _ _ (not-false _ (no_verdict (write_checks a.frame a.buffer.now) tt (sym (told (goal.at.put-requires c).After-first-no) ∙ c.if-no-ne0.false)).0)
 
 pub returns : goal.returns
 unfolding write_asked
 returns c =
-    outcome-done (told (goal.at.returns c).After-first-no) c.if-no-ne0.false _ c.put.ensures
+    outcome_done (told (goal.at.returns c).After-first-no) c.if-no-ne0.false _ c.put.ensures

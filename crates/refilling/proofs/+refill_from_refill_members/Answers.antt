@@ -13,7 +13,7 @@ use Rattle.words.specs.Rule.{omh}
 use Rattle.paths.proofs.Handed.{put_back, room_most}
 use Rattle.vote.proofs.Gather.{inside, weighs}
 use Rattle.refilling.specs.RefillOrder.{book_in, Refilling}
-use Rattle.refilling.proofs.RefillOrder.{fits, refill-reading, refill-decided, refill-long, place-first, place-long, place-asks, place-more, place_same, place-done}
+use Rattle.refilling.proofs.RefillOrder.{fits, refill_reading, refill_decided, refill_long, place_first, place_long, place_asks, place_more, place_same, place_done}
 use Rattle.refilling.proofs.+refill_from_refill_members.Goals as goal
 use Rattle.refilling.proofs.+refill_from_refill_members.Goals.{refill_from-After-read_at-own, refill_from-Joined-left-eq0, refill_from-Start, refill_members-At-loop-q, refill_members-then-members-q, refill_members-else-members-q, refill_from-then-left-eq0, refill_from-else-left-eq0+then-left-eq1, refill_from-else-left-eq0+else-left-eq1}
 
@@ -56,18 +56,18 @@ found t c =
     let list = a.list.now in
     elim c.if-left-eq0.branch [
       | refill_from-then-left-eq0 w ↦
-          (refill-reading omh words list a.first _ left _ _ w.if-left-eq0.true w.list-is (w.vote-is ∙ own t c.before), w.members-is)
+          (refill_reading omh words list a.first _ left _ _ w.if-left-eq0.true w.list-is (w.vote-is ∙ own t c.before), w.members-is)
       | refill_from-else-left-eq0+then-left-eq1 w ↦
-          (refill-decided omh words list a.first _ left _ _ w.if-left-eq0.false w.list-is (omega (arith, w.if-left-eq1.true)) (own t c.before) w.refill_last.ensures (w.vote-is ∙ back_is (sfits_of w.refill_last.type_inv)), w.members-is)
+          (refill_decided omh words list a.first _ left _ _ w.if-left-eq0.false w.list-is (omega (arith, w.if-left-eq1.true)) (own t c.before) w.refill_last.ensures (w.vote-is ∙ back_is (sfits_of w.refill_last.type_inv)), w.members-is)
       | refill_from-else-left-eq0+else-left-eq1 w ↦
           let f = w.refill_members.ensures in
-          (refill-decided omh words list a.first _ left _ _ w.if-left-eq0.false w.list-is refl (own t c.before) f.refilling_below (w.vote-is ∙ back_is (sfits_of w.refill_members.type_inv)), w.members-is ∙ f.members_unchanged)
+          (refill_decided omh words list a.first _ left _ _ w.if-left-eq0.false w.list-is refl (own t c.before) f.refilling_below (w.vote-is ∙ back_is (sfits_of w.refill_members.type_inv)), w.members-is ∙ f.members_unchanged)
     ]
 
 pub refill_from-shape_of-list : goal.refill_from-shape_of-list
 refill_from-shape_of-list t c =
     let a = c.args in
-    refill-long omh a.words.now a.list.now a.first _ _ _ _ c.requires (set c.if-left-eq0.list (a.first + a.k) _) (found t (goal.at.refill_from-shape_of-list t c).Joined-left-eq0).0
+    refill_long omh a.words.now a.list.now a.first _ _ _ _ c.requires (set c.if-left-eq0.list (a.first + a.k) _) (found t (goal.at.refill_from-shape_of-list t c).Joined-left-eq0).0
 
 pub refill_from-overflow_add-vote : goal.refill_from-overflow_add-vote
 refill_from-overflow_add-vote t c = omega (arith, (place t (goal.at.refill_from-overflow_add-vote t c).Start).1)
@@ -82,7 +82,7 @@ pub refill_from-returns : goal.refill_from-returns
 refill_from-returns t c = let h = found t (goal.at.refill_from-returns t c).Joined-left-eq0 in record { refilling = h.0; members_unchanged = h.1 }
 
 pub refill_members-loop-q-init : goal.refill_members-loop-q-init
-refill_members-loop-q-init t c = (refl, place-first omh _ _ _ _ _ _ _ _ refl c.weight-count.ensures)
+refill_members-loop-q-init t c = (refl, place_first omh _ _ _ _ _ _ _ _ refl c.weight-count.ensures)
 
 pub refill_members-overflow_add-d : goal.refill_members-overflow_add-d
 refill_members-overflow_add-d t c = omega arith
@@ -102,7 +102,7 @@ refill_members-overflow_add-k-then-members-q t c = omega (arith, small t (goal.a
 
 pub refill_members-refill_from-vote-requires : goal.refill_members-refill_from-vote-requires
 refill_members-refill_from-vote-requires t c =
-    (omega arith, place-asks c.loop-q.invariant.1 c.requires c.loop-q-test.true c.loop-q.invariant.0)
+    (omega arith, place_asks c.loop-q.invariant.1 c.requires c.loop-q-test.true c.loop-q.invariant.0)
 
 pub refill_members-offset_bounds-reports-count : goal.refill_members-offset_bounds-reports-count
 refill_members-offset_bounds-reports-count t c = omega arith
@@ -127,7 +127,7 @@ refill_members-loop-q-preserved t c =
     elim c.if-members-q.branch [
       | refill_members-then-members-q w ↦ (
         w.members-is ∙ put_back loop.members _ loop.q w.if-members-q.true w.refill_from-vote.ensures.members_unchanged ∙ same,
-        place-more loop.invariant.1 h same w.if-members-q.true w.list-is w.refill_from-vote.ensures.refilling (back_is (sfits_of w.refill_from-vote.type_inv)) w.reports-is (w.count-is ∙ ap (λ (x : ℕ). loop.count + x) w.weight-count-then-members-q.ensures),
+        place_more loop.invariant.1 h same w.if-members-q.true w.list-is w.refill_from-vote.ensures.refilling (back_is (sfits_of w.refill_from-vote.type_inv)) w.reports-is (w.count-is ∙ ap (λ (x : ℕ). loop.count + x) w.weight-count-then-members-q.ensures),
       )
       | refill_members-else-members-q w ↦ (w.members-is ∙ same, place_same loop.invariant.1 h same w.if-members-q.false w.list-is w.reports-is w.count-is)
     ]
@@ -139,11 +139,11 @@ pub refill_members-slice_bounds-decide-end : goal.refill_members-slice_bounds-de
 refill_members-slice_bounds-decide-end t c = sym (length-take-le _ _ (inside c.loop-q.invariant.1.reported))
 
 pub refill_members-shape_of-list : goal.refill_members-shape_of-list
-refill_members-shape_of-list t c = place-long c.loop-q.invariant.1 c.requires
+refill_members-shape_of-list t c = place_long c.loop-q.invariant.1 c.requires
 
 pub refill_members-returns : goal.refill_members-returns
 refill_members-returns t c =
     record {
-      refilling_below = place-done c.loop-q.invariant.1 c.loop-q-test.false (back_is (sfits_of c.wrap-wrapped.type_inv) ∙ c.wrap-wrapped.ensures ∙ ap omh.wrap (back_is c.ranges.own)) (back_is (sfits_of c.decide.type_inv) ∙ c.decide.ensures);
+      refilling_below = place_done c.loop-q.invariant.1 c.loop-q-test.false (back_is (sfits_of c.wrap-wrapped.type_inv) ∙ c.wrap-wrapped.ensures ∙ ap omh.wrap (back_is c.ranges.own)) (back_is (sfits_of c.decide.type_inv) ∙ c.decide.ensures);
       members_unchanged = c.loop-q.invariant.0;
     }

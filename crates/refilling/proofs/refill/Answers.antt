@@ -1,6 +1,6 @@
 -- `refilling::refill` meets its contract: the verdict decides.
 use mathlib.Core.Path.{sym, ◌∙◌}
-use Rattle.ground.proofs.Answers.{outcome-refused, outcome-done}
+use Rattle.ground.proofs.Answers.{outcome-refused, outcome_done}
 use Rattle.book.specs.Book.{book_of}
 use Rattle.refilling.proofs.Refilled.{refill-asked}
 use Rattle.refilling.proofs.refill.Goals as goal
@@ -15,4 +15,4 @@ refill_all-requires c =
 
 pub returns : goal.returns
 returns c =
-    outcome-done c.book_refused-no.ensures c.if-no-ne0.false _ c.refill_all.ensures
+    outcome_done c.book_refused-no.ensures c.if-no-ne0.false _ c.refill_all.ensures

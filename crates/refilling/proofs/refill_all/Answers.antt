@@ -9,12 +9,12 @@ use Rattle.ground.proofs.Lists.{length-table}
 use Rattle.paths.specs.Slots.{members_of}
 use Rattle.paths.specs.Walk.{put_in}
 use Rattle.paths.proofs.Members.{first-members}
-use Rattle.paths.proofs.Handed.{left-few, room-zero}
+use Rattle.paths.proofs.Handed.{left_few, room_zero}
 use Rattle.vote.specs.Members.{member_vote}
 use Rattle.vote.specs.Vote.{rule_of}
 use Rattle.book.specs.Book.{book_of}
 use Rattle.refilling.specs.RefillOrder.{book_in}
-use Rattle.refilling.proofs.Refilled.{put-votes}
+use Rattle.refilling.proofs.Refilled.{put_votes}
 use Rattle.refilling.proofs.refill_all.Goals as goal
 use Rattle.refilling.proofs.refill_all.Goals.{After-may_relay-members}
 
@@ -28,8 +28,8 @@ refill_from-requires c =
       asked = record {
         whole = c.requires.whole.words_long;
         cards = ap length (top (goal.at.refill_from-requires c).After-may_relay-members) ∙ length-table 10 0 _;
-        deep = omega (arith, c.rounds_left-left.ensures, left-few c.args.s 0, c.requires.few);
-        slot = room-zero c.rounds_left-left.result;
+        deep = omega (arith, c.rounds_left-left.ensures, left_few c.args.s 0, c.requires.few);
+        slot = room_zero c.rounds_left-left.result;
       };
       votes_whole = c.requires.whole.votes_long;
     }
@@ -42,4 +42,4 @@ returns c =
     c.refill_from.ensures.refilling.book
     ∙ ap (book_of b.words)
     (ap₂ (λ (l : List Bool) (r : ℕ). put_in (member_vote R b.words) l r 0 0 b.votes) (top (goal.at.returns c).After-may_relay-members) c.rounds_left-left.ensures
-    ∙ put-votes R a.s b.words b.votes c.requires.few c.requires.whole.votes_long)
+    ∙ put_votes R a.s b.words b.votes c.requires.few c.requires.whole.votes_long)

@@ -9,12 +9,12 @@ use Rattle.ground.proofs.Bits.{back, back_is}
 use Rattle.words.specs.Rule.{omh}
 use Rattle.vote.proofs.Gather.{inside, weighs}
 use Rattle.refilling.specs.RefillOrder.{book_in}
-use Rattle.refilling.proofs.RefillOrder.{fits, refill-reading, place-first, place-long, place-asks, place-more, place_same, place-done}
+use Rattle.refilling.proofs.RefillOrder.{fits, refill_reading, place_first, place_long, place_asks, place_more, place_same, place_done}
 use Rattle.refilling.proofs.refill_last.Goals as goal
 use Rattle.refilling.proofs.refill_last.Goals.{At-loop-q, Then-members-q, then-members-q, else-members-q}
 
 pub loop-q-init : goal.loop-q-init
-loop-q-init c = place-first omh _ _ _ _ _ _ _ _ refl c.weight-count.ensures
+loop-q-init c = place_first omh _ _ _ _ _ _ _ _ refl c.weight-count.ensures
 
 pub overflow_mul-slot : goal.overflow_mul-slot
 overflow_mul-slot c = omega arith
@@ -30,7 +30,7 @@ overflow_add-d c = omega arith
 
 -- the list keeps its length
 same : (c : At-loop-q) → length c.loop-q.list ≡ length c.args.list.now
-same c = place-long c.loop-q.invariant c.requires
+same c = place_long c.loop-q.invariant c.requires
 
 -- the slot is one of the words, and its vote has a place
 room : (c : Then-members-q) →
@@ -38,7 +38,7 @@ room : (c : Then-members-q) →
     let slot = 10 * a.k + 1 + c.loop-q.q in
     (slot < length (book_in a.words.now c.loop-q.list a.first).words) × (a.first + slot < length c.loop-q.list)
 room c =
-    fits _ _ _ _ (place-asks c.loop-q.invariant c.requires c.loop-q-test.true refl)
+    fits _ _ _ _ (place_asks c.loop-q.invariant c.requires c.loop-q-test.true refl)
 
 pub word_at-requires : goal.word_at-requires
 word_at-requires c = omega (arith, (room (goal.at.word_at-requires c).Then-members-q).0)
@@ -76,7 +76,7 @@ loop-q-preserved c =
       | then-members-q w ↦
           let word = back_is (sfits_of w.word_at.type_inv) ∙ w.word_at.ensures in
           let read = back_is (sfits_of w.read_at-vote.type_inv) ∙ w.read_at-vote.ensures ∙ ap (omh.read _) word in
-          place-more loop.invariant h refl w.if-members-q.true w.list-is (refill-reading omh a.words.now loop.list a.first _ 0 _ _ refl refl read) refl w.reports-is (w.count-is ∙ ap (λ (x : ℕ). loop.count + x) w.weight-count-then-members-q.ensures)
+          place_more loop.invariant h refl w.if-members-q.true w.list-is (refill_reading omh a.words.now loop.list a.first _ 0 _ _ refl refl read) refl w.reports-is (w.count-is ∙ ap (λ (x : ℕ). loop.count + x) w.weight-count-then-members-q.ensures)
       | else-members-q w ↦ place_same loop.invariant h refl w.if-members-q.false w.list-is w.reports-is w.count-is
     ]
 
@@ -91,4 +91,4 @@ shape_of-list c = same (goal.at.shape_of-list c).At-loop-q
 
 pub returns : goal.returns
 returns c =
-    place-done c.loop-q.invariant c.loop-q-test.false (back_is (sfits_of c.wrap-wrapped.type_inv) ∙ c.wrap-wrapped.ensures ∙ ap omh.wrap (back_is c.ranges.own)) (back_is (sfits_of c.decide.type_inv) ∙ c.decide.ensures)
+    place_done c.loop-q.invariant c.loop-q-test.false (back_is (sfits_of c.wrap-wrapped.type_inv) ∙ c.wrap-wrapped.ensures ∙ ap omh.wrap (back_is c.ranges.own)) (back_is (sfits_of c.decide.type_inv) ∙ c.decide.ensures)

@@ -7,12 +7,12 @@ use lib.ListN.{length}
 use Rattle.ground.specs.Lists.{at}
 use Rattle.ground.proofs.Bits.{back_is}
 use Rattle.refilling.specs.RefillOrder.{book_in}
-use Rattle.refilling.proofs.RefillOrder.{word-apart, word-before}
+use Rattle.refilling.proofs.RefillOrder.{word_apart, word-before}
 use Rattle.refilling.proofs.word_at.Goals as goal
 use Rattle.refilling.proofs.word_at.Goals.{Else-first-eq0, Then-first-eq0}
 
 apart : (c : Then-first-eq0) → let a = c.args in (a.k < length a.words.now) × (at a.words.now a.k ≡ at (book_in a.words.now a.list.now a.first).words a.k)
-apart c = word-apart _ _ _ _ c.if-first-eq0.true c.requires
+apart c = word_apart _ _ _ _ c.if-first-eq0.true c.requires
 
 before : (c : Else-first-eq0) → let a = c.args in (a.k < length a.list.now) × (at a.list.now a.k ≡ at (book_in a.words.now a.list.now a.first).words a.k)
 before c = word-before _ _ _ _ c.if-first-eq0.false c.requires

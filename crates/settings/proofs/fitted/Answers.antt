@@ -4,8 +4,8 @@ use mathlib.Core.Path.{◌≡◌, refl, ◌∙◌}
 use mathlib.Core.Bool.{false}
 use native.Mathlib.Omega.{arith}
 use lib.ListN.{length-set}
-use Rattle.ground.proofs.Lists.{is-table, set_next}
-use Rattle.settings.proofs.Twenty.{fitted-at}
+use Rattle.ground.proofs.Lists.{is_table, set_next}
+use Rattle.settings.proofs.Twenty.{fitted_at}
 use Rattle.settings.proofs.fitted.Goals as goal
 use Rattle.settings.proofs.fitted.Goals.{Joined-n-lt-MAX_CARDS, then-n-lt-MAX_CARDS, else-n-lt-MAX_CARDS}
 
@@ -44,5 +44,5 @@ loop-q-preserved c =
 pub returns : goal.returns
 returns c =
     let at = c.loop-q in
-    is-table 10 _ false at.found at.invariant.0
-    (λ i h. at.invariant.3 i (omega arith) ∙ fitted-at c.args.rack i c.if-n-lt-MAX_CARDS.from (begins (goal.at.returns c).Joined-n-lt-MAX_CARDS) h)
+    is_table 10 _ false at.found at.invariant.0
+    (λ i h. at.invariant.3 i (omega arith) ∙ fitted_at c.args.rack i c.if-n-lt-MAX_CARDS.from (begins (goal.at.returns c).Joined-n-lt-MAX_CARDS) h)

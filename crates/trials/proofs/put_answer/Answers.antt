@@ -6,9 +6,6 @@ use Rattle.trials.proofs.Storing.{renamed}
 use Rattle.trials.proofs.Lines.{missing-text, word-text}
 use Rattle.trials.proofs.put_answer.Goals as goal
 
--- LEFT slice-aggregate-put : tie.Need-slice-aggregate-put
--- LEFT slice-aggregate-put c = search rules
-
 pub returns-then-word-eq-E : goal.returns-then-word-eq-E
 returns-then-word-eq-E c =
     renamed (missing-text c.ranges.word c.if-word-eq-E.true) c.put.ensures

@@ -8,12 +8,6 @@ use Rattle.trials.proofs.Storing.{then, kept, renamed}
 use Rattle.trials.proofs.Lines.{length-answer}
 use Rattle.trials.proofs.put_line.Goals as goal
 
--- LEFT add-t11 : tie.Need-overflow-add-t11
--- LEFT add-t11 c = search rules
-
--- LEFT slice-aggregate-put-2 : tie.Need-slice-aggregate-put-2
--- LEFT slice-aggregate-put-2 c = search rules
-
 pub put-requires : goal.put-requires
 put-requires c =
     omega (arith, c.requires.2, c.put_answer-end.ensures.ends, c.put-end.ensures.ends, kept c.put_answer-end.ensures, kept c.put-end.ensures, length-answer (back c.args.word))

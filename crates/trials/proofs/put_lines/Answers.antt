@@ -7,7 +7,7 @@ use Rattle.ground.proofs.Bits.{back_is}
 use Rattle.settings.specs.Settings.{fits}
 use Rattle.trials.specs.Listing.{line_of, lines}
 use Rattle.trials.proofs.Storing.{nothing, then, kept, renamed, moved}
-use Rattle.trials.proofs.Lines.{length-line, length-lines, lines-yes, lines-no}
+use Rattle.trials.proofs.Lines.{length_line, length-lines, lines_yes, lines_no}
 use Rattle.trials.proofs.put_lines.Goals as goal
 use Rattle.trials.proofs.put_lines.Goals.{then-fits, else-fits}
 use Rattle.trials.proofs.put_lines.Invariants.{line}
@@ -33,7 +33,7 @@ put_line-end-requires c =
     let a = c.args in
     let p = c.loop-p.p in
     let stored = c.loop-p.invariant.1 in
-    (c.loop-p-test.true, omega (arith, c.requires.1 p c.loop-p-test.true), omega (arith, c.loop-p-test.true, c.requires.3, stored.ends, kept stored, length-lines (fits a.rack) (line a.statuses.now a.answers.now) (λ p. length-line p _ _) p))
+    (c.loop-p-test.true, omega (arith, c.requires.1 p c.loop-p-test.true), omega (arith, c.loop-p-test.true, c.requires.3, stored.ends, kept stored, length-lines (fits a.rack) (line a.statuses.now a.answers.now) (λ p. length_line p _ _) p))
 
 pub overflow_step-p : goal.overflow_step-p
 overflow_step-p c = omega arith
@@ -49,8 +49,8 @@ loop-p-preserved c =
     let said = sym c.fits.ensures in (
       omega arith,
       elim c.if-fits.branch [
-        | then-fits w ↦ moved w.end-is w.text-is (renamed (lines-yes _ _ p (said ∙ w.if-fits.true)) (then _ _ stored (renamed (ap (line_of p (get_or a.statuses.now p 0)) (back_is (sfits_of w.put_line-arg-1.given))) w.put_line-end.ensures)))
-        | else-fits w ↦ moved w.end-is w.text-is (renamed (lines-no _ _ p (said ∙ w.if-fits.false)) stored)
+        | then-fits w ↦ moved w.end-is w.text-is (renamed (lines_yes _ _ p (said ∙ w.if-fits.true)) (then _ _ stored (renamed (ap (line_of p (get_or a.statuses.now p 0)) (back_is (sfits_of w.put_line-arg-1.given))) w.put_line-end.ensures)))
+        | else-fits w ↦ moved w.end-is w.text-is (renamed (lines_no _ _ p (said ∙ w.if-fits.false)) stored)
       ],
     )
 

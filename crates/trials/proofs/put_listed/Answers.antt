@@ -2,28 +2,28 @@
 use mathlib.Core.Path.{sym, ap, ◌∙◌}
 use native.Mathlib.Omega.{arith}
 use Rattle.bound.specs.Bound.{of_bounded}
-use Rattle.files.proofs.Good.{file-good}
+use Rattle.files.proofs.Good.{file_good}
 use Rattle.trials.specs.Listing.{bound_line}
-use Rattle.trials.proofs.Asking.{bound-is, bound-given}
+use Rattle.trials.proofs.Asking.{bound_is, bound_given}
 use Rattle.trials.proofs.Storing.{renamed}
-use Rattle.trials.proofs.Text.{listed-as}
+use Rattle.trials.proofs.Text.{listed_as}
 use Rattle.trials.proofs.put_listed.Goals as goal
 
 pub slice_bounds-bound-end : goal.slice_bounds-bound-end
 slice_bounds-bound-end c =
-    omega (arith, (file-good c.args.file.now c.requires.0.passes).head)
+    omega (arith, (file_good c.args.file.now c.requires.0.passes).head)
 
 pub returns-in-Held : goal.returns-in-Held
 unfolding bound_line
 returns-in-Held c =
-    renamed (listed-as c.args.file.now (bound-is c.args.file.now c.requires.0 (sym (ap of_bounded c.in-Held.is) ∙ c.bound.ensures))) c.put_cards.ensures
+    renamed (listed_as c.args.file.now (bound_is c.args.file.now c.requires.0 (sym (ap of_bounded c.in-Held.is) ∙ c.bound.ensures))) c.put_cards.ensures
 
 pub returns-in-NotHeld : goal.returns-in-NotHeld
 unfolding bound_line
 returns-in-NotHeld c =
-    renamed (listed-as c.args.file.now (bound-is c.args.file.now c.requires.0 (sym (ap of_bounded c.in-NotHeld.is) ∙ c.bound.ensures))) c.put_cards-in-NotHeld.ensures
+    renamed (listed_as c.args.file.now (bound_is c.args.file.now c.requires.0 (sym (ap of_bounded c.in-NotHeld.is) ∙ c.bound.ensures))) c.put_cards-in-NotHeld.ensures
 
 -- it cannot be refused
 pub returns-in-Refused : goal.returns-in-Refused
 returns-in-Refused c =
-    absurd (bound-given c.args.file.now c.requires.0 (sym (ap of_bounded c.in-Refused.is) ∙ c.bound.ensures))
+    absurd (bound_given c.args.file.now c.requires.0 (sym (ap of_bounded c.in-Refused.is) ∙ c.bound.ensures))

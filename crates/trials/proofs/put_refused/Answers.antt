@@ -12,12 +12,6 @@ use Rattle.trials.specs.Listing.{ending, refused_line}
 use Rattle.trials.proofs.Storing.{then, kept, renamed}
 use Rattle.trials.proofs.put_refused.Goals as goal
 
--- LEFT slice-aggregate-put : tie.Need-slice-aggregate-put
--- LEFT slice-aggregate-put c = search rules
-
--- LEFT slice-aggregate-put-2 : tie.Need-slice-aggregate-put-2
--- LEFT slice-aggregate-put-2 c = search rules
-
 pub put-requires : goal.put-requires
 put-requires c =
     omega (arith, c.requires, c.put_word-end.ensures.ends, c.put-end.ensures.ends, kept c.put_word-end.ensures, kept c.put-end.ensures, length-text (to_z w32 c.args.no))

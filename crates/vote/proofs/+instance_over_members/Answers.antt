@@ -13,10 +13,10 @@ use Rattle.ground.specs.Lists.{at}
 use Rattle.ground.proofs.Bits.{back, back_is}
 use Rattle.words.specs.Rule.{omh}
 use Rattle.paths.specs.Slots.{below}
-use Rattle.paths.proofs.Handed.{put_back, room-less, room_most, room_back}
+use Rattle.paths.proofs.Handed.{put_back, room_less, room_most, room_back}
 use Rattle.vote.specs.Vote.{decided}
 use Rattle.vote.specs.Members.{member_vote, members_votes}
-use Rattle.vote.proofs.Gather.{inside, report-first, report-more, report-same, weighs, decides, vote-last, vote-more}
+use Rattle.vote.proofs.Gather.{inside, report_first, report_more, report_same, weighs, decides, vote-last, vote_more}
 use Rattle.vote.proofs.+instance_over_members.Goals as goal
 use Rattle.vote.proofs.+instance_over_members.Goals.{over_members-then-members-q, over_members-else-members-q, instance-After-read_at-own, over_members-At-loop-q}
 
@@ -49,12 +49,12 @@ instance-returns t c =
       back_is (sfits_of c.over_members.type_inv)
           ∙ c.over_members.ensures.0
           ∙ ap (λ (own : ℤ). decided omh own (members_votes omh a.words.now a.members.now (a.left - 1) a.d a.k 10)) (own t (goal.at.instance-returns t c).After-read_at-own)
-          ∙ sym (vote-more omh _ _ a.left a.d a.k c.if-left-eq0.false),
+          ∙ sym (vote_more omh _ _ a.left a.d a.k c.if-left-eq0.false),
       c.over_members.ensures.1,
     )
 
 pub over_members-loop-q-init : goal.over_members-loop-q-init
-over_members-loop-q-init t c = (refl, report-first _ _ _ _ refl (search rules))
+over_members-loop-q-init t c = (refl, report_first _ _ _ _ refl (search rules))
 
 pub over_members-bounds-members-q : goal.over_members-bounds-members-q
 over_members-bounds-members-q t c = c.loop-q-test.true
@@ -86,7 +86,7 @@ over_members-instance-vote-requires t c =
         whole = pre.whole;
         cards = length-set c.loop-q.members _ _ ∙ ap length c.loop-q.invariant.0 ∙ pre.cards;
         deep = omega (arith, pre.deep);
-        slot = room-less c.args.left c.args.k c.loop-q.q (omega (arith, pre.deep)) pre.slot c.loop-q-test.true;
+        slot = room_less c.args.left c.args.k c.loop-q.q (omega (arith, pre.deep)) pre.slot c.loop-q-test.true;
       },
     )
 
@@ -117,11 +117,11 @@ over_members-loop-q-preserved t c =
     elim c.if-members-q.branch [
       | over_members-then-members-q w ↦ (
         w.members-is ∙ put_back c.loop-q.members _ q w.if-members-q.true w.instance-vote.ensures.1 ∙ same,
-        report-more c.loop-q.invariant.1 h (rw (← same) w.if-members-q.true)
+        report_more c.loop-q.invariant.1 h (rw (← same) w.if-members-q.true)
             (back_is (sfits_of w.instance-vote.type_inv) ∙ w.instance-vote.ensures.0 ∙ ap (λ (l : List Bool). member_vote omh a.words.now (set l q false) a.left (a.d + 1) (below a.k q)) same)
             w.reports-is (w.count-is ∙ ap (λ (x : ℕ). c.loop-q.count + x) (search rules)),
       )
-      | over_members-else-members-q w ↦ (w.members-is ∙ same, report-same c.loop-q.invariant.1 h (rw (← same) w.if-members-q.false) w.reports-is w.count-is)
+      | over_members-else-members-q w ↦ (w.members-is ∙ same, report_same c.loop-q.invariant.1 h (rw (← same) w.if-members-q.false) w.reports-is w.count-is)
     ]
 
 pub over_members-slice_bounds-reports-end : goal.over_members-slice_bounds-reports-end

@@ -6,7 +6,7 @@ use Rattle.ground.specs.Checks.{verdict}
 use Rattle.ground.proofs.Bits.{back_is}
 use Rattle.ground.proofs.Answers.{answer-refused, answer-given}
 use Rattle.ground.proofs.Verdicts.{alone, joined}
-use Rattle.paths.proofs.Members.{in-tells, in_members}
+use Rattle.paths.proofs.Members.{in_tells, in_members}
 use Rattle.vote.specs.Asked.{words_checks, vote_checks, vote_asked}
 use Rattle.vote.proofs.Asking.{vote-asked}
 use Rattle.vote.proofs.vote_at.Goals as goal
@@ -17,7 +17,7 @@ told : (c : After-first-no) → let a = c.args in c.first-no.result ≡ verdict 
 told c =
     let a = c.args in
     joined (words_checks a.s a.words.now) _ tt c.first-no.ensures c.words_refused.ensures
-    (alone 8 c.when.ensures (ap not (in-tells a.s a.slot c.may_relay-members.ensures c.live_in-live.ensures)))
+    (alone 8 c.when.ensures (ap not (in_tells a.s a.slot c.may_relay-members.ensures c.live_in-live.ensures)))
 
 pub returns-then-no-ne0 : goal.returns-then-no-ne0
 unfolding vote_asked

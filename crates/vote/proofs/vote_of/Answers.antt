@@ -14,7 +14,7 @@ use Rattle.paths.specs.Walk.{room}
 use Rattle.paths.proofs.Handed.{path_room, path-deep, room_most, room_back}
 use Rattle.vote.specs.Vote.{rule_of, decided, vote}
 use Rattle.vote.specs.Members.{member_vote, members_votes, Asked}
-use Rattle.vote.proofs.Gather.{vote-last, vote-more}
+use Rattle.vote.proofs.Gather.{vote-last, vote_more}
 use Rattle.vote.proofs.Handed.{path-vote}
 use Rattle.vote.proofs.vote_of.Goals as goal
 use Rattle.vote.proofs.vote_of.Goals.{After-read_at-own, After-rounds_left-left}
@@ -67,5 +67,5 @@ returns c =
     back_is (sfits_of c.over_members.type_inv)
     ∙ c.over_members.ensures.0
     ∙ ap (λ (own : ℤ). decided omh own (members_votes omh a.words.now a.members.now (left - 1) d a.slot 10)) (own (goal.at.returns c).After-read_at-own)
-    ∙ sym (vote-more omh _ _ left d a.slot c.if-left-eq0.false)
+    ∙ sym (vote_more omh _ _ left d a.slot c.if-left-eq0.false)
     ∙ found (goal.at.returns c).After-rounds_left-left

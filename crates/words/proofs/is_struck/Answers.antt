@@ -2,8 +2,8 @@
 use mathlib.Core.Path.{◌∙◌}
 use lib.Dec.{lit<}
 use Rattle.words.specs.Word.{E}
-use Rattle.words.proofs.Same.{bits-same, same-sym}
+use Rattle.words.proofs.Same.{bits_same, same_sym}
 use Rattle.words.proofs.is_struck.Goals as goal
 
 pub returns : goal.returns
-returns c = bits-same {y = E} c.ranges.word (record { sfits = lit< tt }) ∙ same-sym c.args.word E
+returns c = bits_same {y = E} c.ranges.word (record { sfits = lit< tt }) ∙ same_sym c.args.word E

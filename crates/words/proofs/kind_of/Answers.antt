@@ -9,7 +9,7 @@ use mir.Facts.{Fits-lit}
 use Rattle.words.specs.Word.{kind_of}
 use Rattle.words.specs.declared.Kind.TheVariants.{Missing}
 use Rattle.ground.proofs.Bits.{back}
-use Rattle.words.proofs.ByKind.{told_below, told-among, told-four, told-beyond}
+use Rattle.words.proofs.ByKind.{told_below, told-among, told_four, told_beyond}
 use Rattle.words.proofs.kind_of.Goals as goal
 
 -- the wraps, as the machine computes them
@@ -18,13 +18,13 @@ over x = back x -ℤ pos 1000000000
 
 pub overflow_sub-result : goal.overflow_sub-result
 overflow_sub-result c =
-    told-four c.ranges.word (λ x. SFits w32 (over x))
+    told_four c.ranges.word (λ x. SFits w32 (over x))
     (record { sfits = lit< tt }) (record { sfits = lit< tt }) (record { sfits = lit< tt }) (record { sfits = lit< tt })
     c.in-1000000000-to-1000000003.if-word-lt1000000000-own.false c.in-1000000000-to-1000000003.if-word-lt1000000004-own.true
 
 pub overflow_cast-result : goal.overflow_cast-result
 overflow_cast-result c =
-    told-four c.ranges.word (λ x. T (non_neg (back (over x))) × Fits w64 (nat_abs (back (over x))))
+    told_four c.ranges.word (λ x. T (non_neg (back (over x))) × Fits w64 (nat_abs (back (over x))))
     (tt, Fits-lit tt) (tt, Fits-lit tt) (tt, Fits-lit tt) (tt, Fits-lit tt)
     c.in-1000000000-to-1000000003.if-word-lt1000000000-own.false c.in-1000000000-to-1000000003.if-word-lt1000000004-own.true
 
@@ -34,10 +34,10 @@ returns-in-minus999999999-to-999999999 c = sym (told-among c.ranges.word c.in-mi
 pub returns-in-1000000000-to-1000000003 : goal.returns-in-1000000000-to-1000000003
 unfolding kind_of
 returns-in-1000000000-to-1000000003 c =
-    told-four c.ranges.word (λ x. Missing (nat_abs (back (over x))) ≡ kind_of x) refl refl refl refl c.in-1000000000-to-1000000003.if-word-lt1000000000-own.false c.in-1000000000-to-1000000003.if-word-lt1000000004-own.true
+    told_four c.ranges.word (λ x. Missing (nat_abs (back (over x))) ≡ kind_of x) refl refl refl refl c.in-1000000000-to-1000000003.if-word-lt1000000000-own.false c.in-1000000000-to-1000000003.if-word-lt1000000004-own.true
 
 pub returns-in_default : goal.returns-in_default
 returns-in_default c = sym (told_below c.ranges.word c.in_default.if-word-ltminus999999999-own.true)
 
 pub returns-in_default-2 : goal.returns-in_default-2
-returns-in_default-2 c = sym (told-beyond c.ranges.word c.in_default.if-word-lt1000000004-own.false)
+returns-in_default-2 c = sym (told_beyond c.ranges.word c.in_default.if-word-lt1000000004-own.false)

@@ -5,7 +5,7 @@ use Prim.Native.Nat.{ℕ}
 use Rattle.ground.proofs.Bits.{back_is}
 use Rattle.words.specs.Rule.{omh}
 use Rattle.words.specs.Counted.{majority_of}
-use Rattle.words.proofs.Search.{told-rightly}
+use Rattle.words.proofs.Search.{told_rightly}
 use Rattle.words.proofs.majority.Goals as goal
 
 pub returns : goal.returns
@@ -14,4 +14,4 @@ returns c =
     back_is (sfits_of c.majority_of.type_inv)
     ∙ c.majority_of.ensures
     ∙ ap (λ (n : ℕ). majority_of omh.struck omh.none n list) c.kept_len.ensures
-    ∙ told-rightly omh.struck omh.none list
+    ∙ told_rightly omh.struck omh.none list

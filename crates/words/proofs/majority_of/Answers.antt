@@ -15,13 +15,13 @@ use Rattle.words.specs.Majority.{occurs}
 use Rattle.words.specs.Rule.{omh}
 use Rattle.words.specs.Counted.{majority_of}
 use Rattle.ground.proofs.Bits.{back_is}
-use Rattle.words.proofs.Search.{told_same, told, occurs-more, occurs-other, past-none, past-struck, past_next, few-from, turn_end, turn-struck, turn-next, turn-over}
+use Rattle.words.proofs.Search.{told_same, told, occurs_more, occurs-other, past_none, past_struck, past_next, few_from, turn_end, turn-struck, turn-next, turn-over}
 use Rattle.words.proofs.majority_of.Goals as goal
 use Rattle.words.proofs.majority_of.Goals.{then-list-j, else-list-j, then-not-is_struck+else-half-seen+then-j-list, else-not-is_struck}
 
 pub outer-init : goal.outer-init
 unfolding majority_of
-outer-init c = (omega arith, refl, past-none omh.struck E _ _)
+outer-init c = (omega arith, refl, past_none omh.struck E _ _)
 
 pub overflow_sub-list : goal.overflow_sub-list
 overflow_sub-list c = omega arith
@@ -37,7 +37,7 @@ loop-seen-init c =
     let list = c.args.list.now in
     let i = c.outer.i in
     let h : i < length list = omega arith in
-    (omega arith, omega arith, omega (arith, occurs-more list i h (get_or list i (pos 0)) refl))
+    (omega arith, omega arith, omega (arith, occurs_more list i h (get_or list i (pos 0)) refl))
 
 pub bounds-list-j : goal.bounds-list-j
 bounds-list-j c = omega arith
@@ -58,7 +58,7 @@ loop-seen-preserved c =
     let j = c.loop-seen.j in
     let h : j < length list = omega arith in
     elim c.if-list-j.branch [
-      | then-list-j w ↦ (omega arith, omega arith, omega (arith, occurs-more list j h x (told_same c.t18-1.given c.w-1.given w.if-list-j.true)))
+      | then-list-j w ↦ (omega arith, omega arith, omega (arith, occurs_more list j h x (told_same c.t18-1.given c.w-1.given w.if-list-j.true)))
       | else-list-j w ↦ (omega arith, omega arith, omega (arith, occurs-other list j h x (λ e. w.if-list-j.false (ap (of_z w32) e))))
     ]
 
@@ -79,11 +79,11 @@ outer-preserved c =
     elim c.if-not-is_struck.branch [
       | then-not-is_struck+else-half-seen+then-j-list w ↦
           let out = say true (ap not w.if-not-is_struck.true) in
-          let few = few-from omh.struck E n list i h w.loop-seen.seen out past (w.loop-seen.invariant.2 ∙ ap (occurs (get_or list i (pos 0))) (take_all w.loop-seen.j list (omega (arith, w.if-j-list.true)))) (omega (arith, w.if-half-seen.false)) in
+          let few = few_from omh.struck E n list i h w.loop-seen.seen out past (w.loop-seen.invariant.2 ∙ ap (occurs (get_or list i (pos 0))) (take_all w.loop-seen.j list (omega (arith, w.if-j-list.true)))) (omega (arith, w.if-half-seen.false)) in
           (omega arith, turn-next omh.struck E n list i h out few ∙ c.outer.invariant.1, past_next omh.struck E n list i h few past)
       | else-not-is_struck w ↦
           let out = say false (ap not w.if-not-is_struck.false) in
-          (omega arith, turn-struck omh.struck E n list i h out ∙ c.outer.invariant.1, past-struck omh.struck E n list i h out past)
+          (omega arith, turn-struck omh.struck E n list i h out ∙ c.outer.invariant.1, past_struck omh.struck E n list i h out past)
     ]
 
 pub returns-then-list-i : goal.returns-then-list-i

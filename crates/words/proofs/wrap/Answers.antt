@@ -9,7 +9,7 @@ use mir.Syntax.{w32}
 use mir.Val.{SFits}
 use Rattle.words.specs.Word.{kind_of, missing, wrapped}
 use Rattle.ground.proofs.Bits.{back, back_is}
-use Rattle.words.proofs.ByKind.{four, missing-is, told-kind}
+use Rattle.words.proofs.ByKind.{four, missing_is, told_kind}
 use Rattle.words.proofs.wrap.Goals as goal
 use Rattle.words.proofs.wrap.Goals.{Then-wraps-lt3}
 
@@ -21,31 +21,31 @@ more : (w : ℕ) → w ≤ 3 → w < 3 → More (missing w)
 unfolding wrapped kind_of
 more = four (λ w. w < 3 → More (missing w)) (λ _. (record { sfits = lit< tt }, refl)) (λ _. (record { sfits = lit< tt }, refl)) (λ _. (record { sfits = lit< tt }, refl)) (λ h. absurd (omega arith))
 
-more-is : (c : Then-wraps-lt3) → More c.args.word
-more-is c =
-    let e = missing-is _ _ (told-kind c.ranges.word c.kind_of.ensures c.in-Missing.is) in
+more_is : (c : Then-wraps-lt3) → More c.args.word
+more_is c =
+    let e = missing_is _ _ (told_kind c.ranges.word c.kind_of.ensures c.in-Missing.is) in
     subst More (sym e.0) (more _ e.1 c.if-wraps-lt3.true)
 
 pub overflow_add-result : goal.overflow_add-result
-overflow_add-result c = (more-is c).0
+overflow_add-result c = (more_is c).0
 
 pub returns-in-Ordinary : goal.returns-in-Ordinary
 unfolding wrapped
 returns-in-Ordinary c =
     let f = c.ranges.word in
-    simp (back_is f, told-kind f c.kind_of.ensures c.in-Ordinary.is)
+    simp (back_is f, told_kind f c.kind_of.ensures c.in-Ordinary.is)
 
 pub returns-then-wraps-lt3 : goal.returns-then-wraps-lt3
-returns-then-wraps-lt3 c = (more-is c).1
+returns-then-wraps-lt3 c = (more_is c).1
 
 pub returns-else-wraps-lt3 : goal.returns-else-wraps-lt3
 unfolding wrapped
 returns-else-wraps-lt3 c =
     let f = c.ranges.word in
-    simp (told-kind f c.kind_of.ensures c.in-Missing.is, le-ltb _ _ c.if-wraps-lt3.false)
+    simp (told_kind f c.kind_of.ensures c.in-Missing.is, le-ltb _ _ c.if-wraps-lt3.false)
 
 pub returns-in-Bad : goal.returns-in-Bad
 unfolding wrapped
 returns-in-Bad c =
     let f = c.ranges.word in
-    simp (told-kind f c.kind_of.ensures c.in-Bad.is)
+    simp (told_kind f c.kind_of.ensures c.in-Bad.is)

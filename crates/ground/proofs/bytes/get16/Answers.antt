@@ -1,10 +1,10 @@
 -- `ground::bytes::get16` meets its contract.
 use Rattle.ground.specs.Bytes.{be16}
-use Rattle.ground.proofs.Numbers.{be16-past}
+use Rattle.ground.proofs.Numbers.{be16_past}
 use Rattle.ground.proofs.bytes.get16.Goals as goal
 
 pub returns-then-s-at : goal.returns-then-s-at
-returns-then-s-at c = be16-past _ _ c.if-s-at.true
+returns-then-s-at c = be16_past _ _ c.if-s-at.true
 
 pub returns : goal.returns
 unfolding be16
