@@ -166,7 +166,7 @@ change omh_c
 together 'two archives at once' '' 'lib omh_c --cpu=x86-64' "${archive[@]}"
 
 # The gate holds the same lock while rt removes what is in out/ and proves everything.
-equal 'the gate holds the lock' '    flock . rt ci' "$(grep -o '^ *\(flock \. \)\?rt ci' .ci/run)"
+equal 'the gate holds the lock' '    flock . rt ci | tee ' "$(sed "s/#.*//; s/'[^']*'//g; s/\"[^\"]*\"//g" .ci/run | grep 'rt ci')"
 touch "$kit/hold"
 flock "$tree" sh -c 'echo held >"$0/gate"; while [ -e "$0/kit/bin/hold" ]; do sleep 0.05; done' "$scratch" &
 comes "$scratch/gate" held
