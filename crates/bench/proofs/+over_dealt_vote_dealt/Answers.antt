@@ -25,7 +25,8 @@ use Rattle.bench.proofs.+over_dealt_vote_dealt.Goals.{over_dealt-then-members-q,
 
 pub vote_dealt-sent_to-requires : goal.vote_dealt-sent_to-requires
 vote_dealt-sent_to-requires t c = let pre = c.requires in (pre.table_long, room_most c.args.left c.args.k pre.slot, pre.card)
-    -- the own reading
+
+-- the own reading
 
 own : (t : ℕ) (c : vote_dealt-After-read_at-own t) → let a = c.args in back c.read_at-own.result ≡ omh.read a.d (sent_to a.status (back a.word) a.table.now a.k a.p)
 own t c =
@@ -81,7 +82,8 @@ over_dealt-bounds-members-q-then-members-q t c = c.loop-q-test.true
 pub over_dealt-bounds-statuses-q : goal.over_dealt-bounds-statuses-q
 over_dealt-bounds-statuses-q t c =
     omega (arith, c.loop-q-test.true, c.requires.dealing.statuses_long)
-    -- the slot that is asked about leaves room for the longer path
+
+-- the slot that is asked about leaves room for the longer path
 
 small : (t : ℕ) (c : over_dealt-At-loop-q t) → c.args.k < 1111
 small t c = room_most (c.args.left + 1) c.args.k c.requires.dealing.slot
@@ -136,7 +138,8 @@ over_dealt-overflow_step-q t c = omega arith
 
 pub over_dealt-loop-q-smaller : goal.over_dealt-loop-q-smaller
 over_dealt-loop-q-smaller t c = omega arith
-    -- a good card sends on what it received
+
+-- a good card sends on what it received
 
 sends : (t : ℕ) (c : over_dealt-At-loop-q t) {heard : ℤ} → let a = c.args in let q = c.loop-q.q in let by = get_or a.statuses.now q 0 in heard ≡ sent_to a.status (back a.word) a.table.now a.k q → by ≡ 0 → cond (eqb a.status 1 && eqb by 0) (wrapped' (read_at a.d heard)) (back c.wrap-wrapped.result) ≡ omh.wrap (omh.read a.d (sent_to a.status (back a.word) a.table.now a.k q))
 sends t c e good =

@@ -1,5 +1,4 @@
 -- `vote::instance` and `vote::over_members`, which call each other, meet their contracts. The measure is the rounds left: over the members it is as before, and one more.
--- what each is given at the measure t, and what a call of the other asks below t
 use Prim.Native.Nat.{ℕ, ◌+◌, ◌-◌, ◌<◌}
 use mathlib.Core.Path.{◌≡◌, refl, sym, ap, ◌∙◌}
 use mathlib.Core.Bool.{Bool, false}
@@ -25,7 +24,8 @@ instance-offset_bounds-words-k t c = omega (arith, room_most c.args.left c.args.
 
 pub instance-bounds-words-k : goal.instance-bounds-words-k
 instance-bounds-words-k t c = omega (arith, c.requires.whole, room_most c.args.left c.args.k c.requires.slot)
-    -- the own reading
+
+-- the own reading
 
 own : (t : ℕ) (c : instance-After-read_at-own t) → let a = c.args in back c.read_at-own.result ≡ omh.read a.d (at a.words.now a.k)
 own t c = back_is (sfits_of c.read_at-own.type_inv) ∙ c.read_at-own.ensures ∙ ap (omh.read _) (back_is (sfits_of c.read_at-arg-1.given))
@@ -64,7 +64,8 @@ over_members-bounds-members-q-then-members-q t c = c.loop-q-test.true
 
 pub over_members-overflow_add-d : goal.over_members-overflow_add-d
 over_members-overflow_add-d t c = omega (arith, c.requires.deep)
-    -- the slot that is asked about leaves room for the longer path
+
+-- the slot that is asked about leaves room for the longer path
 
 small : (t : ℕ) (c : over_members-At-loop-q t) → c.args.k < 1111
 small t c = room_most (c.args.left + 1) c.args.k c.requires.slot
