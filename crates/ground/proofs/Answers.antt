@@ -2,11 +2,15 @@
 use Prim.Native.Nat.{ℕ, zero, suc}
 use mathlib.Core.Path.{◌≡◌, refl, sym, ap, ◌∙◌}
 use native.Mathlib.Omega.{arith}
-use Rattle.ground.specs.Answer.{Answer, value, refused, answer, Outcome, outcome, after, outcome_by, of_told, of_done}
-use Rattle.ground.specs.declared.Told.{Told}
-use Rattle.ground.specs.declared.Told.TheVariants as told
-use Rattle.ground.specs.declared.Done.{Done}
-use Rattle.ground.specs.declared.Done.TheVariants as done
+use mathlib.Core.List.{[], ◌∷◌}
+use lib.ListN.{get_or}
+use Rattle.std.specs.Prelude.{Result, Ok, Err}
+use Rattle.std.specs.Result.{IsErrAnd}
+use Rattle.std.proofs.lemmas.Result.{err_from_is_err_and}
+use Rattle.ground.specs.Refusal.{number}
+use Rattle.ground.specs.Answer.{Answer, value, refused, answer, Outcome, outcome, after, outcome_by, refusal_of, of_result}
+use Rattle.ground.specs.declared.refusal.Refusal.{Refusal}
+use Rattle.ground.specs.declared.refusal.Refusal.TheVariants.{Cards, Rounds, Sender, Own, Long, Value, Status, Path, Size, Mark, Version, Old, Ahead, Form, Foreign, Exception}
 
 -- ---- by the verdict v on a call, which the code has as `no`
 
@@ -58,22 +62,69 @@ module _ {A : Type 0} (a : A) where
 pub refused-leaves : {L : Type 0} (v : ℕ) (before made : L) → (v ≡ 0 → ⊥) → after v before made ≡ before
 refused-leaves v before made n = sym (after-refused refl n before made)
 
--- ---- the code's answers: each tells what it was made of
+-- ---- the code's answers
 
-pub told_apart : (x y : Told) → of_told x ≡ of_told y → x ≡ y
-told_apart (told.Word w) (told.Word v) e = ap told.Word (cc e)
-told_apart (told.Word w) (told.Refused k) e = let z : ◌≡◌ {A = ℕ} 0 1 = cc e in absurd (omega arith)
-told_apart (told.Refused k) (told.Word w) e = let z : ◌≡◌ {A = ℕ} 0 1 = cc e in absurd (omega arith)
-told_apart (told.Refused k) (told.Refused j) e = ap told.Refused (cc e)
+-- the refusal of a number; place 0 has none of its own
+abbrev named : ℕ → Refusal
+named k = get_or (Cards ∷ Cards ∷ Rounds ∷ Sender ∷ Own ∷ Long ∷ Value ∷ Status ∷ Path ∷ Size ∷ Mark ∷ Version ∷ Old ∷ Ahead ∷ Form ∷ Foreign ∷ Exception ∷ []) k Cards
 
-done_apart : (x y : Done) → of_done x ≡ of_done y → x ≡ y
-done_apart done.Done done.Done e = refl
-done_apart done.Done (done.Refused k) e = let z : ◌≡◌ {A = ℕ} 0 1 = cc e in absurd (omega arith)
-done_apart (done.Refused k) done.Done e = let z : ◌≡◌ {A = ℕ} 0 1 = cc e in absurd (omega arith)
-done_apart (done.Refused k) (done.Refused j) e = ap done.Refused (cc e)
+named_number : (r : Refusal) → named (number r) ≡ r
+named_number Cards = refl
+named_number Rounds = refl
+named_number Sender = refl
+named_number Own = refl
+named_number Long = refl
+named_number Value = refl
+named_number Status = refl
+named_number Path = refl
+named_number Size = refl
+named_number Mark = refl
+named_number Version = refl
+named_number Old = refl
+named_number Ahead = refl
+named_number Form = refl
+named_number Foreign = refl
+named_number Exception = refl
 
-pub outcome_apart : {L : Type 0} (x y : Done) {l m : L} → outcome (of_done x) l ≡ outcome (of_done y) m → outcome x l ≡ outcome y m
-outcome_apart {L} x y e =
-    let a = done_apart x y (ap (λ (o : Outcome (Answer (Unit {0})) L). o.yields) e) in
-    let b = ap (λ (o : Outcome (Answer (Unit {0})) L). o.leaves) e in
+-- a refusal's number is not 0
+pub numbered : (r : Refusal) → number r ≡ 0 → ⊥
+numbered r z = let e : number r ≡ 1 = ap number (sym (named_number r) ∙ ap named z) in omega arith
+
+pub number_apart : (r q : Refusal) → number r ≡ number q → r ≡ q
+number_apart r q e = sym (named_number r) ∙ ap named e ∙ named_number q
+
+-- each tells what it was made of
+pub refusal_apart : (x y : Result (Unit {0}) Refusal) → refusal_of x ≡ refusal_of y → x ≡ y
+refusal_apart (Ok u) (Ok w) e = refl
+refusal_apart (Ok u) (Err r) e = absurd (numbered r (sym e))
+refusal_apart (Err r) (Ok w) e = absurd (numbered r e)
+refusal_apart (Err r) (Err q) e = ap Err (number_apart r q e)
+
+pub result_apart : {A : Type 0} (x y : Result A Refusal) → of_result x ≡ of_result y → x ≡ y
+result_apart (Ok a) (Ok b) e = ap Ok (cc e)
+result_apart (Ok a) (Err r) e = let z : ◌≡◌ {A = ℕ} 0 1 = cc e in absurd (omega arith)
+result_apart (Err r) (Ok a) e = let z : ◌≡◌ {A = ℕ} 0 1 = cc e in absurd (omega arith)
+result_apart (Err r) (Err q) e = ap Err (number_apart r q (cc e))
+
+pub outcome_apart : {A L : Type 0} (x y : Result A Refusal) {l m : L} → outcome (of_result x) l ≡ outcome (of_result y) m → outcome x l ≡ outcome y m
+outcome_apart {A} {L} x y e =
+    let a = result_apart x y (ap (λ (o : Outcome (Answer A) L). o.yields) e) in
+    let b = ap (λ (o : Outcome (Answer A) L). o.leaves) e in
     λ i. outcome (a i) (b i)
+
+-- ---- what a `?` answers where it leaves with the refusal r
+
+module _ {A : Type 0} (x : Result A Refusal) (r : Refusal) (left : IsErrAnd x (λ q. q ≡ r)) {v : ℕ} (e : number r ≡ v) where
+  is_err : x ≡ Err r
+  is_err = let p = err_from_is_err_and x left in p.1 ∙ ap Err p.2
+
+  pub leaves_refusal : refusal_of x ≡ v
+  leaves_refusal = ap refusal_of is_err ∙ e
+
+  pub leaves_answer : (a : A) → of_result x ≡ answer v a
+  leaves_answer a = ap of_result is_err ∙ answer-refused e (numbered r) a
+
+pub leaves_outcome : {L : Type 0} (x : Result (Unit {0}) Refusal) (r : Refusal) → IsErrAnd x (λ q. q ≡ r) → {v : ℕ} → number r ≡ v → (before made : L) → outcome (of_result x) before ≡ outcome_by v before made
+leaves_outcome {L} x r left e before made =
+    let z : x ≡ Err r = is_err x r left e in
+    ap (λ (x : Result (Unit {0}) Refusal). outcome (of_result x) before) z ∙ outcome-refused e (numbered r) before made

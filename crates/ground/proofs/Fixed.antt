@@ -3,7 +3,12 @@ use Prim.Native.Nat.{ℕ}
 use mathlib.Core.Path.{sym, ◌∙◌}
 use mathlib.Core.Bool.{Bool}
 use lib.IntN.{ℤ}
+use Rattle.std.specs.Prelude.{Result}
 use Rattle.ground.specs.Fixes.{Fixes}
+use Rattle.ground.specs.declared.refusal.Refusal.{Refusal}
+use Rattle.ground.proofs.Answers.{refusal_apart}
+use Rattle.ground.proofs.refusal.Refusal.number.Kinds as number
+use Rattle.ground.proofs.refusal.Refusal.number.Reads as number_says
 use Rattle.ground.proofs.refusal.when.Kinds as when
 use Rattle.ground.proofs.refusal.when.Reads as when_says
 use Rattle.ground.proofs.refusal.first.Kinds as first
@@ -21,11 +26,14 @@ use Rattle.ground.proofs.bytes.from_bits.Reads as from_bits_says
 use Rattle.ground.proofs.bytes.to_bits.Kinds as to_bits
 use Rattle.ground.proofs.bytes.to_bits.Reads as to_bits_says
 
-pub when_fixed : Fixes 0 when.ps when.r when_says.Post ℕ (λ κs x s. x)
-when_fixed κs a x y s t p q = p ∙ sym q
+pub number_fixed : Fixes 0 number.ps number.r number_says.Post ℕ (λ κs x s. x)
+number_fixed κs a x y s t p q = p ∙ sym q
 
-pub first_fixed : Fixes 0 first.ps first.r first_says.Post ℕ (λ κs x s. x)
-first_fixed κs a x y s t p q = p ∙ sym q
+pub when_fixed : Fixes 0 when.ps when.r when_says.Post (Result (Unit {0}) Refusal) (λ κs x s. x)
+when_fixed κs a x y s t p q = refusal_apart x y (p ∙ sym q)
+
+pub first_fixed : Fixes 0 first.ps first.r first_says.Post (Result (Unit {0}) Refusal) (λ κs x s. x)
+first_fixed κs a x y s t p q = refusal_apart x y (p ∙ sym q)
 
 pub starts_with_fixed : Fixes 2 starts_with.ps starts_with.r starts_with_says.Post Bool (λ κs x s. x)
 starts_with_fixed κs a x y s t p q = p ∙ sym q

@@ -1,5 +1,5 @@
 -- Laws of checks in order.
-use Prim.Native.Nat.{ℕ, zero, suc, ◌<◌}
+use Prim.Native.Nat.{ℕ, zero, suc}
 use mathlib.Core.Path.{◌≡◌, refl, sym, ap, ap₂, ◌∙◌}
 use mathlib.Core.Bool.{Bool, true, false, cond, not, ◌&&◌}
 use mathlib.Core.List.{List, [], ◌∷◌, ◌++◌}
@@ -31,17 +31,23 @@ no_verdict (c ∷ cs) p e = go c.applies refl e (no_verdict cs (and_right (ltb 0
 
 -- ---- one list of checks after another
 
+-- a number that is not 0 stays, and 0 gives way
+pub stays : (k v : ℕ) → (k ≡ 0 → ⊥) → k ≡ next k v
+unfolding next
+stays zero v n = absurd (n refl)
+stays (suc k) v n = refl
+
+pub gives_way : {k : ℕ} → k ≡ 0 → (v : ℕ) → v ≡ next k v
+unfolding next
+gives_way z v = rw z
+
 pub verdict-append : (cs ds : List Check) → T (proper cs) → verdict (cs ++ ds) ≡ next (verdict cs) (verdict ds)
 unfolding verdict next
 verdict-append [] ds p = refl
 verdict-append (c ∷ cs) ds p = go c.applies (verdict-append cs ds (and_right (ltb 0 c.number) _ p))
   where
-    same : (k v : ℕ) → 0 < k → k ≡ next k v
-    same zero v h = absurd (omega arith)
-    same (suc k) v h = refl
-
     go : (b : Bool) → verdict (cs ++ ds) ≡ next (verdict cs) (verdict ds) → cond b c.number (verdict (cs ++ ds)) ≡ next (cond b c.number (verdict cs)) (verdict ds)
-    go true ih = same c.number (verdict ds) (ltb→lt 0 c.number (and_left (ltb 0 c.number) _ p))
+    go true ih = stays c.number (verdict ds) (λ z. omega (arith, ltb→lt 0 c.number (and_left (ltb 0 c.number) _ p), z))
     go false ih = ih
 
 -- a number by one check, and by a test that is the same
@@ -69,12 +75,7 @@ module _ (cs ds : List Check) (p : T (proper cs)) where
 
   -- a verdict on the first list is one on both
   pub still_refused : {no : ℕ} → no ≡ verdict cs → (no ≡ 0 → ⊥) → no ≡ verdict (cs ++ ds)
-  unfolding next
-  still_refused {no} e n = go no n e ∙ sym (verdict-append cs ds p)
-    where
-      go : (no : ℕ) → (no ≡ 0 → ⊥) → no ≡ verdict cs → no ≡ next (verdict cs) (verdict ds)
-      go zero n e = absurd (n refl)
-      go (suc k) n e = rw (← e)
+  still_refused {no} e n = stays no (verdict ds) n ∙ ap (λ (v : ℕ). next v (verdict ds)) e ∙ sym (verdict-append cs ds p)
 
   -- none on both: none on either
   pub no_verdicts : verdict (cs ++ ds) ≡ 0 → (verdict cs ≡ 0) × (verdict ds ≡ 0)

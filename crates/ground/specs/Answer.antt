@@ -1,9 +1,7 @@
 -- Document 01, 'Refusal numbers': what a call yields and leaves. A refusal yields its number only; no lent memory changes.
-use Rattle.std.specs.Prelude.{ℕ, zero, suc, ℤ}
-use Rattle.ground.specs.declared.Told.{Told}
-use Rattle.ground.specs.declared.Told.TheVariants as told
-use Rattle.ground.specs.declared.Done.{Done}
-use Rattle.ground.specs.declared.Done.TheVariants as done
+use Rattle.std.specs.Prelude.{ℕ, zero, suc, Result, Ok, Err}
+use Rattle.ground.specs.Refusal.{number}
+use Rattle.ground.specs.declared.refusal.Refusal.{Refusal}
 
 -- what a call yields: its value, or a refusal's number only
 pub data Answer (A : Type 0) : Type 0 where
@@ -34,10 +32,11 @@ outcome_by v before made = outcome (answer v tt) (after v before made)
 
 -- ---- the answers of the code
 
-abbrev pub of_told : Told → Answer ℤ
-of_told (told.Word w) = value w
-of_told (told.Refused k) = refused k
+-- the number of the refusal; 0 for none
+abbrev pub refusal_of : {A : Type 0} → Result A Refusal → ℕ
+refusal_of (Ok a) = 0
+refusal_of (Err r) = number r
 
-abbrev pub of_done : Done → Answer (Unit {0})
-of_done done.Done = value tt
-of_done (done.Refused k) = refused k
+abbrev pub of_result : {A : Type 0} → Result A Refusal → Answer A
+of_result (Ok a) = value a
+of_result (Err r) = refused (number r)

@@ -1,5 +1,7 @@
 -- Document 01, 'Refusal numbers': the table's numbers, each named once.
 use Rattle.std.specs.Prelude.{ℕ}
+use Rattle.ground.specs.declared.refusal.Refusal.{Refusal}
+use Rattle.ground.specs.declared.refusal.Refusal.TheVariants.{Cards, Rounds, Sender, Own, Long, Value, Status, Path, Size, Mark, Version, Old, Ahead, Form, Foreign, Exception}
 
 abbrev pub cards : ℕ
 cards = 1
@@ -48,3 +50,22 @@ foreign = 15
 
 abbrev pub exception : ℕ
 exception = 16
+
+-- the number of each of the code's refusals
+abbrev pub number : Refusal → ℕ
+number Cards = cards
+number Rounds = rounds
+number Sender = sender
+number Own = own
+number Long = long
+number Value = value
+number Status = status
+number Path = path
+number Size = size
+number Mark = mark
+number Version = version
+number Old = old
+number Ahead = ahead
+number Form = form
+number Foreign = foreign
+number Exception = exception
