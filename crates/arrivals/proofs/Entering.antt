@@ -21,7 +21,7 @@ use Rattle.vote.specs.Vote.{rule_of}
 use Rattle.book.specs.Book.{Book}
 use Rattle.book.specs.Asked.{book_checks}
 use Rattle.entering.specs.Entered.{entered}
-use Rattle.entering.specs.Run.{Entry}
+use Rattle.entering.specs.declared.Entry.{Entry}
 use Rattle.entering.specs.Asked.{enter_asked}
 use Rattle.ages.specs.Ages.{age_of, class_of}
 use Rattle.frames.specs.Frame.{frame_of, relay_formed, well_formed}

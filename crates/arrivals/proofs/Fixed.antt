@@ -8,7 +8,7 @@ use Rattle.ground.specs.Answer.{Outcome, outcome}
 use Rattle.ground.specs.declared.Done.{Done}
 use Rattle.ground.proofs.Answers.{outcome_apart}
 use Rattle.book.specs.Book.{Book, book_of}
-use Rattle.entering.specs.Run.{Entry}
+use Rattle.entering.specs.declared.Entry.{Entry}
 use Rattle.arrivals.specs.Entry.{of_carried}
 use Rattle.arrivals.specs.declared.Carried.{Carried}
 use Rattle.arrivals.specs.declared.Carried.TheVariants as carried

@@ -21,7 +21,8 @@ use Rattle.vote.specs.Vote.{rule_of, vote}
 use Rattle.book.specs.Book.{Book, Sized, opened}
 use Rattle.book.specs.Asked.{book_checks, held_asked}
 use Rattle.book.proofs.Asking.{opened-sized}
-use Rattle.entering.specs.Run.{Entry, step, run, words_left}
+use Rattle.entering.specs.Run.{step, run, words_left}
+use Rattle.entering.specs.declared.Entry.{Entry}
 use Rattle.entering.proofs.FromOpening.{step-sized}
 use Rattle.entering.proofs.Demand3.{demand_3}
 use Rattle.entering.proofs.Calls.{open_call, enter_call, run_of_calls, held_after_calls}

@@ -10,15 +10,13 @@ use Rattle.vote.specs.Vote.{rule_of}
 use Rattle.book.specs.Book.{Book}
 use Rattle.book.specs.Asked.{book_checks}
 use Rattle.entering.specs.Entered.{entered}
-use Rattle.entering.specs.Run.{Entry}
+use Rattle.entering.specs.declared.Entry.{Entry}
 use Rattle.ages.specs.Ages.{age_of, class_of}
 use Rattle.frames.specs.Frame.{frame_of}
 use Rattle.frames.specs.Asked.{read_checks}
 use Rattle.frames.specs.declared.Frame.{Frame}
 use Rattle.ages.specs.declared.Age.{Age}
 use Rattle.ages.specs.declared.Age.TheVariants.{Current, Old, Ahead}
-use Rattle.arrivals.specs.declared.Carried.{Carried}
-use Rattle.arrivals.specs.declared.Carried.TheVariants as carried
 
 -- the slot of a frame's path
 abbrev pub frame_slot : Frame → ℕ
@@ -49,10 +47,6 @@ frame_checks s current bytes = read_checks bytes ++ timely_checks s current (fra
 -- the entry that a record gives
 abbrev pub frame_entry : Frame → Entry
 frame_entry f = record { slot = frame_slot f; word = f.word }
-
-abbrev pub of_carried : Carried → Answer Entry
-of_carried (carried.Entry slot word) = value (record { slot = slot; word = word })
-of_carried (carried.Refused k) = refused k
 
 -- a record's: refused where it is not timely, or has no path
 abbrev pub entry_checks : Settings → ℕ → Frame → List Check

@@ -4,7 +4,7 @@ use Rattle.ground.specs.Checks.{verdict}
 use Rattle.settings.specs.declared.Settings.{Settings}
 use Rattle.book.specs.Book.{Book}
 use Rattle.book.specs.Asked.{open_asked}
-use Rattle.entering.specs.Run.{Entry}
+use Rattle.entering.specs.declared.Entry.{Entry}
 use Rattle.entering.specs.Asked.{enter_asked}
 use Rattle.frames.specs.Frame.{frame_of}
 use Rattle.arrivals.specs.Entry.{frame_entry, frame_checks, frame_asked}

@@ -3,7 +3,7 @@
 #![tactic(auto)]
 
 ghost use Rattle.std.specs.Prelude.{◌≡◌, ◌+◌, ◌≤◌, ◌<◌, length};
-ghost use Rattle.ground.specs.Answer.{outcome, of_told, of_done};
+ghost use Rattle.ground.specs.Answer.{outcome, of_result};
 ghost use Rattle.words.specs.Rule.{omh};
 ghost use Rattle.settings.specs.Settings.{slots, turn_of};
 ghost use Rattle.vote.specs.Vote.{rule_of, decided};
@@ -13,7 +13,7 @@ ghost use Rattle.exchange.specs.Sending.{sent_to, Deals};
 ghost use Rattle.bench.specs.Dealing.{Dealing, dealt_vote, dealt_votes};
 ghost use Rattle.bench.specs.Asked.{answers_of, answer_for_asked, answers_asked};
 
-use ground::{Done, Told, refusal};
+use ground::refusal::Refusal;
 use settings::{Settings, Turn};
 use vote::REPORTS;
 use words::E;
@@ -137,14 +137,11 @@ fn dealt_answer(s: Settings, x: i32, statuses: &[u8], table: &[i32]) -> i32
 }
 
 // The answer of the own card.
-pub fn answer_for(s: Settings, x: i32, statuses: &[u8], table: &[i32]) -> Told
-    ensures { of_told result ≡ answer_for_asked s x statuses.now table.now }
+pub fn answer_for(s: Settings, x: i32, statuses: &[u8], table: &[i32]) -> Result<i32, Refusal>
+    ensures { of_result result ≡ answer_for_asked s x statuses.now table.now }
 {
-    let no = exchange::card_refused(s, x, statuses, exchange::inputs_long(statuses, table));
-    if no != 0 {
-        return Told::Refused(no);
-    }
-    Told::Word(dealt_answer(s, x, statuses, table))
+    exchange::card_refused(s, x, statuses, exchange::inputs_long(statuses, table))?;
+    Ok(dealt_answer(s, x, statuses, table))
 }
 
 // Puts the answer of each card of the rack in its place.
@@ -161,17 +158,18 @@ fn answer_all(turn: Turn, x: i32, statuses: &[u8], table: &[i32], answers: &mut 
 }
 
 // The answers of all cards of the rack, each in its place of a list of ten.
-pub fn all_answers(turn: Turn, x: i32, statuses: &[u8], table: &[i32], answers: &mut [i32]) -> Done
-    ensures { outcome (of_done result) answers.new ≡ answers_asked turn x statuses.now table.now answers.old }
+pub fn all_answers(
+    turn: Turn,
+    x: i32,
+    statuses: &[u8],
+    table: &[i32],
+    answers: &mut [i32],
+) -> Result<(), Refusal>
+    ensures { outcome (of_result result) answers.new ≡ answers_asked turn x statuses.now table.now answers.old }
 {
     let long = exchange::inputs_long(statuses, table) & (answers.len() == Settings::MAX_CARDS);
-    let no = refusal::first(
-        settings::turn_refused(turn),
-        exchange::values_refused(turn.rack, x, statuses, long),
-    );
-    if no != 0 {
-        return Done::Refused(no);
-    }
+    settings::turn_refused(turn)?;
+    exchange::values_refused(turn.rack, x, statuses, long)?;
     answer_all(turn, x, statuses, table, answers);
-    Done::Done
+    Ok(())
 }

@@ -2,14 +2,14 @@
 
 #![tactic(auto)]
 
-ghost use Rattle.std.specs.Prelude.{◌≡◌, length, replicate};
+ghost use Rattle.std.specs.Prelude.{◌≡◌};
 ghost use Rattle.ground.specs.Checks.{verdict};
-ghost use Rattle.ground.specs.Answer.{outcome, of_told, of_done};
-ghost use Rattle.words.specs.Word.{E as E_spec};
+ghost use Rattle.ground.specs.Answer.{outcome, refusal_of, of_result};
 ghost use Rattle.book.specs.Book.{book_of, sized, halves};
 ghost use Rattle.book.specs.Asked.{book_checks, open_asked, held_asked};
 
-use ground::{Done, Told, refusal};
+use ground::refusal;
+use ground::refusal::Refusal;
 use settings::Settings;
 use words::E;
 
@@ -23,67 +23,48 @@ pub fn is_whole(words: &[i32], votes: &[i32]) -> bool
     (words.len() == Settings::SLOTS) & (votes.len() == Settings::SLOTS)
 }
 
-// The refusal number of a call on a book; 0 for none.
-pub fn book_refused(s: Settings, words: &[i32], votes: &[i32]) -> u8
-    ensures { result ≡ verdict (book_checks s (book_of words.now votes.now)) }
+// Whether a call on a book is refused.
+pub fn book_refused(s: Settings, words: &[i32], votes: &[i32]) -> Result<(), Refusal>
+    ensures { refusal_of result ≡ verdict (book_checks s (book_of words.now votes.now)) }
 {
     refusal::first(
         settings::settings_refused(s),
-        refusal::when(!is_whole(words, votes), refusal::LONG),
+        refusal::when(!is_whole(words, votes), Refusal::Long),
     )
 }
 
 // The same of a book in one list.
-pub fn part_refused(s: Settings, part: &[i32]) -> u8
-    ensures { result ≡ verdict (book_checks s (halves part.now)) }
+pub fn part_refused(s: Settings, part: &[i32]) -> Result<(), Refusal>
+    ensures { refusal_of result ≡ verdict (book_checks s (halves part.now)) }
 {
     refusal::first(
         settings::settings_refused(s),
-        refusal::when(part.len() != BOOK, refusal::LONG),
+        refusal::when(part.len() != BOOK, Refusal::Long),
     )
 }
 
-// Sets every word of a list to E.
-fn clear(list: &mut [i32])
-    ensures { list.new ≡ replicate (length list.old) E_spec }
+pub fn open(s: Settings, words: &mut [i32], votes: &mut [i32]) -> Result<(), Refusal>
+    ensures { outcome (of_result result) (book_of words.new votes.new) ≡ open_asked s (book_of words.old votes.old) }
 {
-    let mut i = 0;
-    while i < list.len() {
-        list[i] = E;
-        i += 1;
-    }
-}
-
-pub fn open(s: Settings, words: &mut [i32], votes: &mut [i32]) -> Done
-    ensures { outcome (of_done result) (book_of words.new votes.new) ≡ open_asked s (book_of words.old votes.old) }
-{
-    let no = book_refused(s, words, votes);
-    if no != 0 {
-        return Done::Refused(no);
-    }
-    clear(words);
-    clear(votes);
-    Done::Done
+    book_refused(s, words, votes)?;
+    words.fill(E);
+    votes.fill(E);
+    Ok(())
 }
 
 // The same of a book in one list.
-pub fn open_part(s: Settings, part: &mut [i32]) -> Done
-    ensures { outcome (of_done result) (halves part.new) ≡ open_asked s (halves part.old) }
+pub fn open_part(s: Settings, part: &mut [i32]) -> Result<(), Refusal>
+    ensures { outcome (of_result result) (halves part.new) ≡ open_asked s (halves part.old) }
 {
-    let no = part_refused(s, part);
-    if no != 0 {
-        return Done::Refused(no);
-    }
-    clear(part);
-    Done::Done
+    let half = Settings::SLOTS.min(part.len());
+    let (words, votes) = part.split_at_mut(half);
+    open(s, words, votes)
 }
 
 // The vote at slot 0 as it stands.
-pub fn held_answer(words: &[i32], votes: &[i32]) -> Told
-    ensures { of_told result ≡ held_asked (book_of words.now votes.now) }
+pub fn held_answer(words: &[i32], votes: &[i32]) -> Result<i32, Refusal>
+    ensures { of_result result ≡ held_asked (book_of words.now votes.now) }
 {
-    if !is_whole(words, votes) {
-        return Told::Refused(refusal::LONG);
-    }
-    Told::Word(votes[0])
+    refusal::when(!is_whole(words, votes), Refusal::Long)?;
+    Ok(votes[0])
 }

@@ -18,7 +18,8 @@ use Rattle.book.specs.Book.{Book, book_of, halves, Sized, opened}
 use Rattle.book.specs.Asked.{book_checks}
 use Rattle.book.proofs.Asking.{opened-sized}
 use Rattle.entering.specs.Entered.{entered}
-use Rattle.entering.specs.Run.{Entry, run}
+use Rattle.entering.specs.Run.{run}
+use Rattle.entering.specs.declared.Entry.{Entry}
 use Rattle.entering.proofs.Entering.{entered-sized}
 use Rattle.entering.proofs.FromOpening.{run-sized, run-words, run-votes}
 use Rattle.entering.proofs.Calls.{open_call}

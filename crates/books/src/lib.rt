@@ -3,27 +3,28 @@
 #![tactic(auto)]
 
 ghost use Rattle.std.specs.Prelude.{◌*◌, ◌<◌, ◌≡◌, ◌&&◌, eqb, ltb, length};
-ghost use Rattle.ground.specs.Checks.{verdict, next};
-ghost use Rattle.ground.specs.Answer.{refused, outcome, of_done};
+ghost use Rattle.ground.specs.Checks.{verdict};
+ghost use Rattle.ground.specs.Answer.{outcome, refusal_of, of_result};
 ghost use Rattle.settings.specs.Settings.{most_cards};
 ghost use Rattle.books.specs.Books.{book_words, books_words, books_checks};
 ghost use Rattle.books.specs.Asked.{books_open_asked, books_enter_asked, books_refill_asked, books_frame_asked};
 
-use arrivals::Carried;
 use book::BOOK;
-use ground::{Done, refusal};
+use entering::Entry;
+use ground::refusal;
+use ground::refusal::Refusal;
 use settings::Settings;
 
 // The long list: a book for each of the ten cards as sender, sender after sender.
 pub const BOOKS: usize = Settings::MAX_CARDS * BOOK;
 
-// The refusal number of a call on the long list; 0 for none.
-pub fn books_refused(s: Settings, books: &[i32]) -> u8
-    ensures { result ≡ verdict (books_checks s books.now) }
+// Whether a call on the long list is refused.
+pub fn books_refused(s: Settings, books: &[i32]) -> Result<(), Refusal>
+    ensures { refusal_of result ≡ verdict (books_checks s books.now) }
 {
     refusal::first(
         settings::settings_refused(s),
-        refusal::when(books.len() != BOOKS, refusal::LONG),
+        refusal::when(books.len() != BOOKS, Refusal::Long),
     )
 }
 
@@ -42,55 +43,44 @@ fn start_of(s: Settings) -> usize
     BOOK * s.t
 }
 
-pub fn open(s: Settings, books: &mut [i32]) -> Done
-    ensures { outcome (of_done result) books.new ≡ books_open_asked s books.old }
+pub fn open(s: Settings, books: &mut [i32]) -> Result<(), Refusal>
+    ensures { outcome (of_result result) books.new ≡ books_open_asked s books.old }
 {
     if !has_part(s, books) {
-        return Done::Refused(books_refused(s, books));
+        return books_refused(s, books);
     }
     let from = start_of(s);
     book::open_part(s, &mut books[from..from + BOOK])
 }
 
 // Enters a word at a slot.
-pub fn enter(s: Settings, books: &mut [i32], slot: usize, word: i32) -> Done
-    ensures { outcome (of_done result) books.new ≡ books_enter_asked s books.old slot word }
+pub fn enter(s: Settings, books: &mut [i32], slot: usize, word: i32) -> Result<(), Refusal>
+    ensures { outcome (of_result result) books.new ≡ books_enter_asked s books.old slot word }
 {
     if !has_part(s, books) {
-        return Done::Refused(books_refused(s, books));
+        return books_refused(s, books);
     }
     let from = start_of(s);
     entering::enter_part(s, &mut books[from..from + BOOK], slot, word)
 }
 
 // Makes every live vote of the sender's book again from the words.
-pub fn refill(s: Settings, books: &mut [i32]) -> Done
-    ensures { outcome (of_done result) books.new ≡ books_refill_asked s books.old }
+pub fn refill(s: Settings, books: &mut [i32]) -> Result<(), Refusal>
+    ensures { outcome (of_result result) books.new ≡ books_refill_asked s books.old }
 {
     if !has_part(s, books) {
-        return Done::Refused(books_refused(s, books));
+        return books_refused(s, books);
     }
     let from = start_of(s);
     refilling::refill_part(s, &mut books[from..from + BOOK])
 }
 
-// Refused with a frame's number, unless the long list is refused: that comes first.
-fn refuse(s: Settings, books: &[i32], no: u8) -> Done
-    ensures { of_done result ≡ refused (next (verdict (books_checks s books.now)) no) }
-{
-    Done::Refused(refusal::first(books_refused(s, books), no))
-}
-
 // Enters a frame, where `current` is the exchange number.
-pub fn enter_frame(s: Settings, books: &mut [i32], current: u16, bytes: &[u8]) -> Done
-    ensures { outcome (of_done result) books.new ≡ books_frame_asked s books.old current bytes.now }
+pub fn enter_frame(s: Settings, books: &mut [i32], current: u16, bytes: &[u8]) -> Result<(), Refusal>
+    ensures { outcome (of_result result) books.new ≡ books_frame_asked s books.old current bytes.now }
 {
-    let unread = frames::refused(bytes);
-    if unread != 0 {
-        return refuse(s, books, unread);
-    }
-    match arrivals::entry_of(s, current, frames::frame_of(bytes)) {
-        Carried::Entry { slot, word } => enter(s, books, slot, word),
-        Carried::Refused(no) => refuse(s, books, no),
+    match arrivals::arrival(s, current, bytes) {
+        Ok(Entry { slot, word }) => enter(s, books, slot, word),
+        Err(late) => refusal::first(books_refused(s, books), Err(late)),
     }
 }

@@ -2,14 +2,12 @@
 use Rattle.std.specs.Prelude.{ℕ, ◌+◌, ◌*◌, Bool, true, false, not, ◌&&◌, List, [], ◌∷◌, ◌++◌, eqb, ltb, leb, length}
 use Rattle.ground.specs.Refusal as refusal
 use Rattle.ground.specs.Checks.{Check, check, verdict}
-use Rattle.ground.specs.Answer.{Answer, value, refused, answer}
+use Rattle.ground.specs.Answer.{Answer, answer}
 use Rattle.ground.specs.Lists.{count}
 use Rattle.settings.specs.Settings.{most_cards, cards, fits, rack_checks}
 use Rattle.settings.specs.declared.Rack.{Rack}
 use Rattle.exchange.specs.Exchange.{Status, good, arbitrary, symmetric, manifest, statuses_of}
 use Rattle.exchange.specs.Asked.{statuses_bad}
-use Rattle.bound.specs.declared.Bounded.{Bounded}
-use Rattle.bound.specs.declared.Bounded.TheVariants as bounded'
 
 abbrev pub is_arbitrary : Status → Bool
 is_arbitrary good = false
@@ -52,11 +50,6 @@ unfoldable pub bounded : Rack → (ℕ → Status) → Bool
 bounded rack status = enough rack status && leb (arbitraries rack status) rack.m
 
 -- ---- as it is asked
-
-abbrev pub of_bounded : Bounded → Answer Bool
-of_bounded bounded'.Held = value true
-of_bounded bounded'.NotHeld = value false
-of_bounded (bounded'.Refused k) = refused k
 
 -- 1, 2, 5, 7
 abbrev pub bound_checks : Rack → List ℕ → List Check

@@ -3,7 +3,7 @@
 #![tactic(auto)]
 
 ghost use Rattle.std.specs.Prelude.{◌≡◌, ◌+◌, ◌≤◌, ◌<◌, length};
-ghost use Rattle.ground.specs.Answer.{outcome, of_told, of_done};
+ghost use Rattle.ground.specs.Answer.{outcome, of_result};
 ghost use Rattle.words.specs.Rule.{omh};
 ghost use Rattle.settings.specs.Settings.{slots, turn_of};
 ghost use Rattle.settings.specs.declared.Rack.{Rack};
@@ -15,7 +15,8 @@ ghost use Rattle.dealing.specs.Dealt.{dealt_over};
 ghost use Rattle.dealing.specs.DealOrder.{DealsFrom, DealtFrom, DealtBelow};
 ghost use Rattle.dealing.specs.Asked.{word_asked, fill_asked};
 
-use ground::{Done, Told, refusal};
+use ground::refusal;
+use ground::refusal::Refusal;
 use settings::Settings;
 
 // The word that card p receives at slot k.
@@ -36,19 +37,14 @@ fn dealt_at(t: usize, x: i32, statuses: &[u8], table: &[i32], k: usize, p: usize
 }
 
 // The word that the own card receives on the path at a slot.
-pub fn word_for(s: Settings, x: i32, statuses: &[u8], table: &[i32], slot: usize) -> Told
-    ensures { of_told result ≡ word_asked s x statuses.now table.now slot }
+pub fn word_for(s: Settings, x: i32, statuses: &[u8], table: &[i32], slot: usize) -> Result<i32, Refusal>
+    ensures { of_result result ≡ word_asked s x statuses.now table.now slot }
 {
     let mut members = paths::may_relay(s);
     let live = paths::live_in(s, &mut members, slot);
-    let no = refusal::first(
-        exchange::card_refused(s, x, statuses, exchange::inputs_long(statuses, table)),
-        refusal::when(!live, refusal::PATH),
-    );
-    if no != 0 {
-        return Told::Refused(no);
-    }
-    Told::Word(dealt_at(s.t, x, statuses, table, slot, s.p))
+    exchange::card_refused(s, x, statuses, exchange::inputs_long(statuses, table))?;
+    refusal::when(!live, Refusal::Path)?;
+    Ok(dealt_at(s.t, x, statuses, table, slot, s.p))
 }
 
 // Deals card p its word at slot k of level d, on which a card of this status sends, `word` if it is good, after its words at the longer paths. So many rounds are left; `members` are the cards that may still relay.
@@ -161,14 +157,11 @@ pub fn fill(
     table: &[i32],
     words: &mut [i32],
     votes: &mut [i32],
-) -> Done
-    ensures { outcome (of_done result) (book_of words.new votes.new) ≡ fill_asked s x statuses.now table.now (book_of words.old votes.old) }
+) -> Result<(), Refusal>
+    ensures { outcome (of_result result) (book_of words.new votes.new) ≡ fill_asked s x statuses.now table.now (book_of words.old votes.old) }
 {
     let long = exchange::inputs_long(statuses, table) & book::is_whole(words, votes);
-    let no = exchange::card_refused(s, x, statuses, long);
-    if no != 0 {
-        return Done::Refused(no);
-    }
+    exchange::card_refused(s, x, statuses, long)?;
     deal(s, x, statuses, table, words);
     refilling::refill(s, words, votes)
 }

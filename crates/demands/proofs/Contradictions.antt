@@ -20,7 +20,7 @@ use Rattle.book.specs.Book.{Book, Sized}
 use Rattle.book.specs.Asked.{book_checks, slot_checks, open_asked, held_asked}
 use Rattle.entering.specs.Entered.{contradicted}
 use Rattle.entering.specs.Asked.{enter_asked}
-use Rattle.entering.specs.Run.{Entry}
+use Rattle.entering.specs.declared.Entry.{Entry}
 use Rattle.entering.specs.Accepted.{accepted_at, repeats}
 use Rattle.entering.proofs.Holding.{left_agreed, repeated}
 use Rattle.entering.proofs.FromOpening.{opened-word}

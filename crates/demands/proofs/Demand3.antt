@@ -17,7 +17,8 @@ use Rattle.paths.specs.Slots.{way, live}
 use Rattle.vote.specs.Vote.{rule_of, vote}
 use Rattle.book.specs.Book.{Book, book_of, Sized}
 use Rattle.book.specs.Asked.{open_asked, held_asked}
-use Rattle.entering.specs.Run.{Entry, left_at, words_left}
+use Rattle.entering.specs.Run.{left_at, words_left}
+use Rattle.entering.specs.declared.Entry.{Entry}
 use Rattle.entering.specs.Accepted.{accepted_at, leaves}
 use Rattle.entering.specs.Asked.{enter_asked}
 use Rattle.entering.proofs.Holding.{left_agreed}

@@ -18,7 +18,8 @@ use Rattle.vote.specs.Vote.{rule_of, vote}
 use Rattle.book.specs.Book.{Book, halves, Sized}
 use Rattle.book.specs.Asked.{book_checks}
 use Rattle.entering.specs.Entered.{contradicted, entered}
-use Rattle.entering.specs.Run.{Entry, step}
+use Rattle.entering.specs.Run.{step}
+use Rattle.entering.specs.declared.Entry.{Entry}
 use Rattle.entering.proofs.Entering.{entered_one_word, entered_stays, entered_on_the_way}
 use Rattle.entering.proofs.OnlyLive.{Alike, entered_alike}
 use Rattle.refilling.specs.Refilled.{refilled, refill_asked}

@@ -24,7 +24,8 @@ use Rattle.book.specs.Asked.{book_checks, open_asked, held_asked}
 use Rattle.book.proofs.Asking.{both_sized, opened-sized, not_refused}
 use Rattle.entering.specs.Entered.{entered}
 use Rattle.entering.specs.Asked.{enter_asked}
-use Rattle.entering.specs.Run.{Entry, step, run, words_left}
+use Rattle.entering.specs.Run.{step, run, words_left}
+use Rattle.entering.specs.declared.Entry.{Entry}
 use Rattle.entering.specs.Calls.{calls, open_calls}
 use Rattle.entering.proofs.FromOpening.{step-sized, run-sized, run-words, run-votes}
 

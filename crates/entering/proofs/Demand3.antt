@@ -13,7 +13,8 @@ use Rattle.paths.specs.Slots.{way, live}
 use Rattle.paths.proofs.Live.{live_zero}
 use Rattle.vote.specs.Vote.{vote}
 use Rattle.book.specs.Book.{Book, opened, held}
-use Rattle.entering.specs.Run.{Entry, step, run, words_left}
+use Rattle.entering.specs.Run.{step, run, words_left}
+use Rattle.entering.specs.declared.Entry.{Entry}
 use Rattle.entering.proofs.Entering.{entered_one_word, entered_on_the_way}
 use Rattle.entering.proofs.FromOpening.{run-votes}
 

@@ -22,7 +22,8 @@ use Rattle.vote.proofs.Votes.{vote-none}
 use Rattle.book.specs.Book.{Book, Sized, opened}
 use Rattle.book.proofs.Asking.{opened-sized}
 use Rattle.entering.specs.Entered.{holds, stored, entered}
-use Rattle.entering.specs.Run.{Entry, step, run, is_accepted, left_at, words_left, Agrees}
+use Rattle.entering.specs.Run.{step, run, is_accepted, left_at, words_left, Agrees}
+use Rattle.entering.specs.declared.Entry.{Entry}
 use Rattle.entering.proofs.Along.{at_set}
 use Rattle.entering.proofs.Entering.{entered-sized, entered_agrees}
 

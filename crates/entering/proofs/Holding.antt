@@ -10,7 +10,8 @@ use Rattle.words.specs.Majority.{same}
 use Rattle.words.proofs.Same.{same_eq, same_refl, eq_same, same_ne, ne_same}
 use Rattle.settings.specs.declared.Settings.{Settings}
 use Rattle.entering.specs.Entered.{contradicted, holds}
-use Rattle.entering.specs.Run.{Entry, is_accepted, left_at}
+use Rattle.entering.specs.Run.{is_accepted, left_at}
+use Rattle.entering.specs.declared.Entry.{Entry}
 use Rattle.entering.specs.Accepted.{accepted_at, after_e, all_are, agreed, leaves, repeats}
 
 -- ---- one word

@@ -4,7 +4,8 @@ use Rattle.words.specs.Word.{E}
 use Rattle.words.specs.Majority.{same}
 use Rattle.settings.specs.declared.Settings.{Settings}
 use Rattle.entering.specs.Entered.{contradicted}
-use Rattle.entering.specs.Run.{Entry, is_accepted}
+use Rattle.entering.specs.Run.{is_accepted}
+use Rattle.entering.specs.declared.Entry.{Entry}
 
 -- the words of a run that are accepted for the path at k, in their order
 unfoldable pub accepted_at : Settings → ℕ → List Entry → List ℤ

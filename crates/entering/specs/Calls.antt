@@ -4,7 +4,7 @@ use Rattle.settings.specs.declared.Settings.{Settings}
 use Rattle.book.specs.Book.{Book}
 use Rattle.book.specs.Asked.{open_asked}
 use Rattle.entering.specs.Asked.{enter_asked}
-use Rattle.entering.specs.Run.{Entry}
+use Rattle.entering.specs.declared.Entry.{Entry}
 
 -- calls of `enter`, one for each entry, the first of the list first
 unfoldable pub calls : Settings → Book → List Entry → Book

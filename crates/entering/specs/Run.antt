@@ -8,11 +8,8 @@ use Rattle.settings.specs.declared.Settings.{Settings}
 use Rattle.paths.specs.Slots.{live}
 use Rattle.vote.specs.Vote.{vote}
 use Rattle.book.specs.Book.{Book}
+use Rattle.entering.specs.declared.Entry.{Entry}
 use Rattle.entering.specs.Entered.{holds, entered}
-
-pub record Entry : Type 0 where
-  pub slot : ℕ
-  pub word : ℤ
 
 -- a refused entering changes nothing
 unfoldable pub step : Rule → Settings → Book → Entry → Book

@@ -3,7 +3,7 @@
 #![tactic(auto)]
 
 ghost use Rattle.std.specs.Prelude.{◌≡◌, ◌<◌, length};
-ghost use Rattle.ground.specs.Answer.{outcome, of_done};
+ghost use Rattle.ground.specs.Answer.{outcome, of_result};
 ghost use Rattle.ground.specs.Lists.{table};
 ghost use Rattle.words.specs.Rule.{omh};
 ghost use Rattle.settings.specs.Settings.{most_cards, slots};
@@ -14,10 +14,17 @@ ghost use Rattle.entering.specs.Entered.{holds, stored};
 ghost use Rattle.entering.specs.Asked.{enter_asked};
 ghost use Rattle.entering.specs.Remaking.{held_votes, member_remade, way_words, Remakes, Enters, RemadeUp, Admits};
 
-use ground::{Done, refusal};
+use ground::refusal::Refusal;
 use settings::Settings;
 use vote::REPORTS;
 use words::E;
+
+// A word for a slot.
+#[derive(Clone, Copy, Debug, PartialEq, Eq)]
+pub struct Entry {
+    pub slot: usize,
+    pub word: i32,
+}
 
 // What stands where two different words came: a bad word, which reads as E.
 pub const CONTRADICTED: i32 = 1_000_000_009;
@@ -123,44 +130,31 @@ fn store(words: &mut [i32], slot: usize, word: i32) -> [i32; LEVELS]
     [first, words[second], words[third], words[fourth]]
 }
 
-// The refusal number of an entering, given that of its book; 0 for none, and then `members`, the cards that may relay, are those that may lengthen the slot's path.
-fn admit(s: Settings, no: u8, members: &mut [bool; Settings::MAX_CARDS], slot: usize) -> u8
-    requires { members.old ≡ table most_cards 0 (may_relay s) }
-    ensures { Admits s no slot result members.new }
-{
-    if no != 0 {
-        return no;
-    }
-    if !paths::live_in(s, members, slot) {
-        return refusal::PATH;
-    }
-    0
-}
-
 // Enters a word at a slot.
-pub fn enter(s: Settings, words: &mut [i32], votes: &mut [i32], slot: usize, word: i32) -> Done
-    ensures { outcome (of_done result) (book_of words.new votes.new) ≡ enter_asked s (book_of words.old votes.old) slot word }
+pub fn enter(
+    s: Settings,
+    words: &mut [i32],
+    votes: &mut [i32],
+    slot: usize,
+    word: i32,
+) -> Result<(), Refusal>
+    ensures { outcome (of_result result) (book_of words.new votes.new) ≡ enter_asked s (book_of words.old votes.old) slot word }
 {
     let mut members = paths::may_relay(s);
-    let no = admit(s, book::book_refused(s, words, votes), &mut members, slot);
-    if no != 0 {
-        return Done::Refused(no);
+    book::book_refused(s, words, votes)?;
+    if !paths::live_in(s, &mut members, slot) {
+        return Err(Refusal::Path);
     }
     let on_way = store(words, slot, word);
     walk_up(s, &on_way, votes, &mut members, slot);
-    Done::Done
+    Ok(())
 }
 
-// The same in a book in one list. Two parts of one list cannot be lent at once, so the votes alone are.
-pub fn enter_part(s: Settings, part: &mut [i32], slot: usize, word: i32) -> Done
-    ensures { outcome (of_done result) (halves part.new) ≡ enter_asked s (halves part.old) slot word }
+// The same in a book in one list.
+pub fn enter_part(s: Settings, part: &mut [i32], slot: usize, word: i32) -> Result<(), Refusal>
+    ensures { outcome (of_result result) (halves part.new) ≡ enter_asked s (halves part.old) slot word }
 {
-    let mut members = paths::may_relay(s);
-    let no = admit(s, book::part_refused(s, part), &mut members, slot);
-    if no != 0 {
-        return Done::Refused(no);
-    }
-    let on_way = store(part, slot, word);
-    walk_up(s, &on_way, &mut part[Settings::SLOTS..], &mut members, slot);
-    Done::Done
+    let half = Settings::SLOTS.min(part.len());
+    let (words, votes) = part.split_at_mut(half);
+    enter(s, words, votes, slot, word)
 }

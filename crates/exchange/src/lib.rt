@@ -4,11 +4,14 @@
 
 ghost use Rattle.std.specs.Prelude.{◌≡◌, cond, ◌&&◌, eqb};
 ghost use Rattle.ground.specs.Checks.{verdict};
+ghost use Rattle.ground.specs.Answer.{refusal_of};
 ghost use Rattle.words.specs.Word.{kind_of, read_at, wrapped};
 ghost use Rattle.exchange.specs.Exchange.{status_of, sent};
 ghost use Rattle.exchange.specs.Asked.{inputs_long, status_bad, statuses_bad, is_ordinary, status_checks, value_checks, card_checks};
 
-use ground::{bytes, refusal};
+use ground::bytes;
+use ground::refusal;
+use ground::refusal::Refusal;
 use settings::{Rack, Settings};
 use words::{E, Kind};
 
@@ -30,40 +33,31 @@ fn status_bad(rack: Rack, statuses: &[u8], q: usize) -> bool
 pub fn statuses_bad(rack: Rack, statuses: &[u8]) -> bool
     ensures { result ≡ statuses_bad rack statuses.now }
 {
-    for q in 0..Settings::MAX_CARDS {
-        if status_bad(rack, statuses, q) {
-            return true;
-        }
-    }
-    false
+    (0..Settings::MAX_CARDS).any(|q| status_bad(rack, statuses, q))
 }
 
 fn is_ordinary(word: i32) -> bool
     ensures { result ≡ is_ordinary (kind_of word) }
 {
-    match words::kind_of(word) {
-        Kind::Ordinary => true,
-        Kind::Missing(_) => false,
-        Kind::Bad => false,
-    }
+    matches!(words::kind_of(word), Kind::Ordinary)
 }
 
-// The refusal number of the statuses and the sender's value; 0 for none.
-pub fn statuses_refused(rack: Rack, x: i32, statuses: &[u8]) -> u8
-    ensures { result ≡ verdict (status_checks rack x statuses.now) }
+// Whether the statuses and the sender's value are refused.
+pub fn statuses_refused(rack: Rack, x: i32, statuses: &[u8]) -> Result<(), Refusal>
+    ensures { refusal_of result ≡ verdict (status_checks rack x statuses.now) }
 {
     refusal::first(
-        refusal::when(statuses_bad(rack, statuses), refusal::STATUS),
-        refusal::when(!is_ordinary(x), refusal::VALUE),
+        refusal::when(statuses_bad(rack, statuses), Refusal::Status),
+        refusal::when(!is_ordinary(x), Refusal::Value),
     )
 }
 
 // The same after the lengths of what is lent.
-pub fn values_refused(rack: Rack, x: i32, statuses: &[u8], long: bool) -> u8
-    ensures { result ≡ verdict (value_checks rack x statuses.now long) }
+pub fn values_refused(rack: Rack, x: i32, statuses: &[u8], long: bool) -> Result<(), Refusal>
+    ensures { refusal_of result ≡ verdict (value_checks rack x statuses.now long) }
 {
     refusal::first(
-        refusal::when(!long, refusal::LONG),
+        refusal::when(!long, Refusal::Long),
         statuses_refused(rack, x, statuses),
     )
 }
@@ -75,9 +69,9 @@ pub fn inputs_long(statuses: &[u8], table: &[i32]) -> bool
     (statuses.len() == Settings::MAX_CARDS) & (table.len() == TABLE)
 }
 
-// The refusal number of settings and of what an exchange is given; 0 for none.
-pub fn card_refused(s: Settings, x: i32, statuses: &[u8], long: bool) -> u8
-    ensures { result ≡ verdict (card_checks s x statuses.now long) }
+// Whether settings and what an exchange is given are refused.
+pub fn card_refused(s: Settings, x: i32, statuses: &[u8], long: bool) -> Result<(), Refusal>
+    ensures { refusal_of result ≡ verdict (card_checks s x statuses.now long) }
 {
     refusal::first(
         settings::settings_refused(s),

@@ -3,7 +3,7 @@ use Rattle.std.specs.Prelude.{ℕ, zero, suc, ◌+◌, ◌*◌, Bool, not, ◌||
 use Rattle.words.specs.Word.{E}
 use Rattle.ground.specs.Refusal as refusal
 use Rattle.ground.specs.Checks.{Check, check, verdict}
-use Rattle.ground.specs.Answer.{Answer, value, refused, answer}
+use Rattle.ground.specs.Answer.{Answer, answer}
 use Rattle.ground.specs.Bytes.{byte, starts, be16, be32, signed32}
 use Rattle.ground.specs.Lists.{table, some_of}
 use Rattle.settings.specs.Settings.{most_cards, slots, turn_checks}
@@ -12,8 +12,6 @@ use Rattle.exchange.specs.Exchange.{Exchange, exchange}
 use Rattle.exchange.specs.Asked.{table_words, status_checks}
 use Rattle.files.specs.declared.Exception.{Exception}
 use Rattle.files.specs.declared.Head.{Head}
-use Rattle.files.specs.declared.Headed.{Headed}
-use Rattle.files.specs.declared.Headed.TheVariants as headed
 
 -- the letters OMX
 abbrev pub mark : List ℕ
@@ -93,10 +91,6 @@ abbrev pub exchange_of : List ℕ → Exchange
 exchange_of file = exchange (turn_in file) (value_in file) (statuses file) (table_of file)
 
 -- ---- as it is asked
-
-abbrev pub of_headed : Headed → Answer Head
-of_headed (headed.Head h) = value h
-of_headed (headed.Refused k) = refused k
 
 unfoldable pub file_asked : List ℕ → Answer Head
 file_asked file = answer (verdict (file_checks file)) (head_of file)

@@ -4,9 +4,12 @@
 
 ghost use Rattle.std.specs.Prelude.{◌≡◌, ◌<◌};
 ghost use Rattle.ground.specs.Checks.{verdict};
+ghost use Rattle.ground.specs.Answer.{refusal_of, of_result};
 ghost use Rattle.files.specs.File as spec;
 
-use ground::{bytes, refusal};
+use ground::bytes;
+use ground::refusal;
+use ground::refusal::Refusal;
 use settings::{Rack, Settings, Turn};
 
 const MARK: [u8; 3] = *b"OMX";
@@ -25,12 +28,6 @@ const MOST_EXCEPTIONS: usize = 64;
 pub struct Head {
     pub turn: Turn,
     pub x: i32,
-}
-
-#[derive(Clone, Copy)]
-pub enum Headed {
-    Head(Head),
-    Refused(u8),
 }
 
 // A word for a slot and a receiver.
@@ -89,61 +86,39 @@ fn exception_bad(file: &[u8], i: usize) -> bool
 fn exceptions_bad(file: &[u8]) -> bool
     ensures { result ≡ spec.exceptions_bad file.now }
 {
-    for i in 0..exceptions(file) {
-        if exception_bad(file, i) {
-            return true;
-        }
-    }
-    false
+    (0..exceptions(file)).any(|i| exception_bad(file, i))
 }
 
-// The refusal number of a file's mark, version and lengths; 0 for none.
-fn shape_refused(file: &[u8]) -> u8
-    ensures { result ≡ verdict (spec.shape_checks file.now) }
+// Whether a file is refused by its mark, version and lengths.
+fn shape_refused(file: &[u8]) -> Result<(), Refusal>
+    ensures { refusal_of result ≡ verdict (spec.shape_checks file.now) }
 {
     let number = exceptions(file);
-    refusal::first(
-        refusal::when(file.len() < HEAD, refusal::SIZE),
-        refusal::first(
-            refusal::when(!bytes::starts_with(file, &MARK), refusal::MARK),
-            refusal::first(
-                refusal::when(bytes::get16(file, 3) != VERSION, refusal::VERSION),
-                refusal::first(
-                    refusal::when(MOST_EXCEPTIONS < number, refusal::EXCEPTION),
-                    refusal::when(file.len() != HEAD + EXCEPTION_SIZE * number, refusal::SIZE),
-                ),
-            ),
-        ),
-    )
+    refusal::when(file.len() < HEAD, Refusal::Size)?;
+    refusal::when(!bytes::starts_with(file, &MARK), Refusal::Mark)?;
+    refusal::when(bytes::get16(file, 3) != VERSION, Refusal::Version)?;
+    refusal::when(MOST_EXCEPTIONS < number, Refusal::Exception)?;
+    refusal::when(file.len() != HEAD + EXCEPTION_SIZE * number, Refusal::Size)
 }
 
-// The refusal number of a file with this head; 0 for none. Its statuses and exceptions are looked at where they are there.
-fn refused(file: &[u8], h: Head) -> u8
+// Whether a file with this head is refused. Its statuses and exceptions are looked at where they are there.
+fn refused(file: &[u8], h: Head) -> Result<(), Refusal>
     requires { h ≡ spec.head_of file.now }
-    ensures { result ≡ verdict (spec.file_checks file.now) }
+    ensures { refusal_of result ≡ verdict (spec.file_checks file.now) }
 {
-    let no = shape_refused(file);
-    if no != 0 {
-        return no;
-    }
-    let turn = h.turn;
-    let no = refusal::first(
-        settings::turn_refused(turn),
-        exchange::statuses_refused(turn.rack, h.x, &file[8..18]),
-    );
-    refusal::first(no, refusal::when(exceptions_bad(file), refusal::EXCEPTION))
+    shape_refused(file)?;
+    settings::turn_refused(h.turn)?;
+    exchange::statuses_refused(h.turn.rack, h.x, &file[8..18])?;
+    refusal::when(exceptions_bad(file), Refusal::Exception)
 }
 
 // The head of a file that is not refused.
-pub fn read(file: &[u8]) -> Headed
-    ensures { spec.of_headed result ≡ spec.file_asked file.now }
+pub fn read(file: &[u8]) -> Result<Head, Refusal>
+    ensures { of_result result ≡ spec.file_asked file.now }
 {
     let h = head_of(file);
-    let no = refused(file, h);
-    if no != 0 {
-        return Headed::Refused(no);
-    }
-    Headed::Head(h)
+    refused(file, h)?;
+    Ok(h)
 }
 
 // Puts the word of an exception in its place, where the table has it.

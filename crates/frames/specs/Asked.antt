@@ -2,16 +2,10 @@
 use Rattle.std.specs.Prelude.{ℕ, not, List, [], ◌∷◌, eqb, length}
 use Rattle.ground.specs.Refusal as refusal
 use Rattle.ground.specs.Checks.{Check, check, verdict}
-use Rattle.ground.specs.Answer.{Answer, value, refused, answer, Outcome, outcome_by}
+use Rattle.ground.specs.Answer.{Answer, answer, Outcome, outcome_by}
 use Rattle.ground.specs.Bytes.{starts, be16}
 use Rattle.frames.specs.Frame.{mark, version, frame_of, bytes_of, well_formed}
 use Rattle.frames.specs.declared.Frame.{Frame}
-use Rattle.frames.specs.declared.Parsed.{Parsed}
-use Rattle.frames.specs.declared.Parsed.TheVariants as parsed
-
-abbrev pub of_parsed : Parsed → Answer Frame
-of_parsed (parsed.Frame f) = value f
-of_parsed (parsed.Refused k) = refused k
 
 -- not 17 bytes, wrong mark, version not 1, not well formed
 abbrev pub read_checks : List ℕ → List Check

@@ -4,11 +4,13 @@
 
 ghost use Rattle.std.specs.Prelude.{◌≡◌, length};
 ghost use Rattle.ground.specs.Checks.{verdict};
-ghost use Rattle.ground.specs.Answer.{outcome, of_done};
+ghost use Rattle.ground.specs.Answer.{outcome, refusal_of, of_result};
 ghost use Rattle.frames.specs.Frame.{frame_of, bytes_of, relay_formed, well_formed};
-ghost use Rattle.frames.specs.Asked.{of_parsed, read_checks, read_asked, write_asked};
+ghost use Rattle.frames.specs.Asked.{read_checks, read_asked, write_asked};
 
-use ground::{Done, bytes, refusal};
+use ground::bytes;
+use ground::refusal;
+use ground::refusal::Refusal;
 
 const MARK: [u8; 3] = *b"OMH";
 
@@ -37,12 +39,6 @@ pub struct Frame {
 impl Frame {
     // A frame's bytes.
     pub const SIZE: usize = 17;
-}
-
-#[derive(Clone, Copy)]
-pub enum Parsed {
-    Frame(Frame),
-    Refused(u8),
 }
 
 // A relay at its place, from 1.
@@ -84,34 +80,22 @@ pub fn frame_of(s: &[u8]) -> Frame
     }
 }
 
-// The refusal number of bytes that are read as a frame; 0 for none.
-pub fn refused(s: &[u8]) -> u8
-    ensures { result ≡ verdict (read_checks s.now) }
+// Whether bytes that are read as a frame are refused.
+pub fn refused(s: &[u8]) -> Result<(), Refusal>
+    ensures { refusal_of result ≡ verdict (read_checks s.now) }
 {
-    if s.len() != Frame::SIZE {
-        return refusal::SIZE;
-    }
-    if !bytes::starts_with(s, &MARK) {
-        return refusal::MARK;
-    }
-    if bytes::get16(s, 3) != VERSION {
-        return refusal::VERSION;
-    }
-    if !well_formed(frame_of(s)) {
-        return refusal::FORM;
-    }
-    0
+    refusal::when(s.len() != Frame::SIZE, Refusal::Size)?;
+    refusal::when(!bytes::starts_with(s, &MARK), Refusal::Mark)?;
+    refusal::when(bytes::get16(s, 3) != VERSION, Refusal::Version)?;
+    refusal::when(!well_formed(frame_of(s)), Refusal::Form)
 }
 
 // The record that a frame carries.
-pub fn read(bytes: &[u8]) -> Parsed
-    ensures { of_parsed result ≡ read_asked bytes.now }
+pub fn read(bytes: &[u8]) -> Result<Frame, Refusal>
+    ensures { of_result result ≡ read_asked bytes.now }
 {
-    let no = refused(bytes);
-    if no != 0 {
-        return Parsed::Refused(no);
-    }
-    Parsed::Frame(frame_of(bytes))
+    refused(bytes)?;
+    Ok(frame_of(bytes))
 }
 
 // The bytes that carry a record.
@@ -153,16 +137,11 @@ fn put(frame: Frame, buffer: &mut [u8])
     }
 }
 
-pub fn write(frame: Frame, buffer: &mut [u8]) -> Done
-    ensures { outcome (of_done result) buffer.new ≡ write_asked frame buffer.old }
+pub fn write(frame: Frame, buffer: &mut [u8]) -> Result<(), Refusal>
+    ensures { outcome (of_result result) buffer.new ≡ write_asked frame buffer.old }
 {
-    let no = refusal::first(
-        refusal::when(buffer.len() != Frame::SIZE, refusal::LONG),
-        refusal::when(!well_formed(frame), refusal::FORM),
-    );
-    if no != 0 {
-        return Done::Refused(no);
-    }
+    refusal::when(buffer.len() != Frame::SIZE, Refusal::Long)?;
+    refusal::when(!well_formed(frame), Refusal::Form)?;
     put(frame, buffer);
-    Done::Done
+    Ok(())
 }

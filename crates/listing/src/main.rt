@@ -2,9 +2,9 @@
 
 #![tactic(auto)]
 
-ghost use Rattle.std.specs.Prelude.{◌≤◌, length};
-ghost use Rattle.listing.specs.Reading.{bytes};
+ghost use Rattle.std.specs.Prelude.{◌≤◌, length, IfOk};
 
+use std::io;
 use std::io::{Read, Stdin};
 
 // One byte more than the longest file that is not refused: more bytes change nothing (`trials/proofs/Long.antt`).
@@ -14,61 +14,31 @@ const UNREAD: [u8; 39] = *b"listing: standard input cannot be read\n";
 
 const UNWRITTEN: [u8; 43] = *b"listing: standard output cannot be written\n";
 
-// What reading gave: how many bytes, or a failure. A read that a signal interrupts fails.
-#[derive(Clone, Copy)]
-enum Got {
-    Bytes(usize),
-    Failed,
-}
-
-// Reads standard input once; no bytes at its end.
-fn read_once(mut input: Stdin, place: &mut [u8]) -> Got
-    ensures { bytes result ≤ length place.old }
-{
-    match input.read(place) {
-        Ok(count) => Got::Bytes(count),
-        Err(_) => Got::Failed,
-    }
-}
-
-fn skip_some(input: Stdin) -> Got {
-    let mut rest = [0; 4096];
-    read_once(input, &mut rest)
-}
-
-// Reads the rest of the input, so that who writes it is not cut off, and answers whether all of it could be read. A proved loop has to end, and nothing says that an input does: it counts its turns down, from a number that no run uses up.
-fn skip_rest(input: Stdin) -> bool {
-    let mut turns = u64::MAX;
-    while turns > 0 {
-        let Got::Bytes(more) = skip_some(input) else {
-            return false;
-        };
-        if more == 0 {
-            return true;
+// Reads the rest of the input, so that who writes it is not cut off. A proved loop has to end, and nothing says that an input does: it counts its turns, to a number that no run uses up.
+fn skip_rest(mut input: Stdin) -> io::Result<()> {
+    for _ in 0..u64::MAX {
+        let mut rest = [0; 4096];
+        if input.read(&mut rest)? == 0 {
+            break;
         }
-        turns -= 1;
     }
-    true
+    Ok(())
 }
 
-// Reads the input to its end, and keeps as many of its first bytes as there are places.
-fn read_input(input: Stdin, file: &mut [u8]) -> Got
-    ensures { bytes result ≤ length file.new }
+// Reads the input to its end, keeps as many of its first bytes as there are places, and answers how many. A read that a signal interrupts fails.
+fn read_input(mut input: Stdin, file: &mut [u8]) -> io::Result<usize>
+    ensures { IfOk result (λ many. many ≤ length file.new) }
 {
     let mut many = 0;
     while many < file.len() {
-        let Got::Bytes(more) = read_once(input, &mut file[many..]) else {
-            return Got::Failed;
-        };
+        let more = input.read(&mut file[many..])?;
         if more == 0 {
-            return Got::Bytes(many);
+            return Ok(many);
         }
         many += more;
     }
-    if skip_rest(input) {
-        return Got::Bytes(many);
-    }
-    Got::Failed
+    skip_rest(input)?;
+    Ok(many)
 }
 
 // Prints the text of a file.
@@ -83,8 +53,8 @@ fn print(rt: &HostRuntime, file: &[u8]) {
 fn main(rt: HostRuntime) {
     let mut file = [0; ENOUGH];
     match read_input(rt.stdin(), &mut file) {
-        Got::Bytes(many) => print(&rt, &file[..many]),
-        Got::Failed => {
+        Ok(many) => print(&rt, &file[..many]),
+        Err(_) => {
             let _ = rt.stderr().write_all(&UNREAD);
         }
     }

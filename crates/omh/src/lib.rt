@@ -4,12 +4,12 @@
 
 ghost use Rattle.std.specs.Prelude.{◌≡◌, ◌++◌, length, drop};
 ghost use Rattle.ground.specs.Checks.{verdict};
-ghost use Rattle.ground.specs.Answer.{outcome, of_told, of_done};
+ghost use Rattle.ground.specs.Answer.{outcome, of_result};
 ghost use Rattle.words.specs.Word.{read_at, wrapped, unwrapped};
 ghost use Rattle.words.specs.Rule.{omh, majority_by};
 ghost use Rattle.settings.specs.Settings.{settings_checks};
 ghost use Rattle.settings.specs.Asked.{settings};
-ghost use Rattle.paths.specs.Asked.{of_place, slot_asked, above_asked, live_asked};
+ghost use Rattle.paths.specs.Asked.{slot_asked, above_asked, live_asked};
 ghost use Rattle.vote.specs.Asked.{vote_asked};
 ghost use Rattle.book.specs.Book.{book_of};
 ghost use Rattle.book.specs.Asked.{open_asked, held_asked};
@@ -27,10 +27,8 @@ ghost use Rattle.trials.specs.Listing.{text_of};
 ghost use Rattle.omh.specs.Numbers.{rack as rack_spec, turn as turn_spec, frame_with, number_of, numbered, placed, placed_as, bit, fields_of};
 
 use ages::Age;
-use bound::Bounded;
-use frames::{Frame, Parsed};
-use ground::{Done, Told};
-use paths::{Liveness, Place};
+use frames::Frame;
+use ground::refusal::Refusal;
 use settings::{Rack, Settings, Turn};
 
 // ---- numbers in and out
@@ -49,38 +47,26 @@ fn turn_of(n: usize, m: usize, t: usize) -> Turn
     Turn { rack, t }
 }
 
-fn number_of(d: Done) -> u8
-    ensures { result ≡ number_of (of_done d) }
+// 0, or the refusal's number.
+fn number_of(done: Result<(), Refusal>) -> u8
+    ensures { result ≡ number_of (of_result done) }
 {
-    match d {
-        Done::Done => 0,
-        Done::Refused(k) => k,
+    match done {
+        Ok(()) => 0,
+        Err(refusal) => refusal.number(),
     }
 }
 
-// The word goes to its place.
-fn place(told: Told, at: &mut i32) -> u8
-    ensures { outcome result at.new ≡ placed (of_told told) at.old }
+// The value goes to its place.
+fn place<T: Copy>(told: Result<T, Refusal>, at: &mut T) -> u8
+    ensures { outcome result at.new ≡ placed (of_result told) at.old }
 {
     match told {
-        Told::Word(w) => {
-            *at = w;
+        Ok(value) => {
+            *at = value;
             0
         }
-        Told::Refused(k) => k,
-    }
-}
-
-// The slot goes to its place.
-fn place_slot(given: Place, at: &mut usize) -> u8
-    ensures { outcome result at.new ≡ placed (of_place given) at.old }
-{
-    match given {
-        Place::Slot(slot) => {
-            *at = slot;
-            0
-        }
-        Place::Refused(k) => k,
+        Err(refusal) => refusal.number(),
     }
 }
 
@@ -116,32 +102,26 @@ pub fn omh_majority(list: &[i32]) -> i32
 pub fn omh_settings_refused(n: usize, m: usize, t: usize, p: usize) -> u8
     ensures { result ≡ verdict (settings_checks (settings n m t p)) }
 {
-    settings::settings_refused(settings_of(n, m, t, p))
+    number_of(settings::settings_refused(settings_of(n, m, t, p)))
 }
 
 pub fn omh_slot_of(level: usize, q1: usize, q2: usize, q3: usize, slot: &mut usize) -> u8
     ensures { outcome result slot.new ≡ placed (slot_asked level q1 q2 q3) slot.old }
 {
-    place_slot(paths::slot_of(level, q1, q2, q3), slot)
+    place(paths::slot_of(level, q1, q2, q3), slot)
 }
 
 pub fn omh_slot_above(slot: usize, above: &mut usize) -> u8
     ensures { outcome result above.new ≡ placed (above_asked slot) above.old }
 {
-    place_slot(paths::slot_above(slot), above)
+    place(paths::slot_above(slot), above)
 }
 
 // 1 in the place where the slot is live, else 0.
 pub fn omh_is_live(n: usize, m: usize, t: usize, p: usize, slot: usize, live: &mut i32) -> u8
     ensures { outcome result live.new ≡ placed_as bit (live_asked (settings n m t p) slot) live.old }
 {
-    match paths::is_live(settings_of(n, m, t, p), slot) {
-        Liveness::Live(is) => {
-            *live = if is { 1 } else { 0 };
-            0
-        }
-        Liveness::Refused(k) => k,
-    }
+    place(paths::is_live(settings_of(n, m, t, p), slot).map(i32::from), live)
 }
 
 // ---- the vote
@@ -243,8 +223,8 @@ pub fn omh_age_class(current: u16, frame: u16) -> u8
 {
     match ages::age_class(current, frame) {
         Age::Current => 0,
-        Age::Old => ground::refusal::OLD,
-        Age::Ahead => ground::refusal::AHEAD,
+        Age::Old => Refusal::Old.number(),
+        Age::Ahead => Refusal::Ahead.number(),
     }
 }
 
@@ -270,13 +250,7 @@ fn fields_of(f: Frame) -> [i32; FIELDS]
 pub fn omh_read_frame(bytes: &[u8], fields: &mut [i32; FIELDS]) -> u8
     ensures { outcome result fields.new ≡ placed_as fields_of (read_asked bytes.now) fields.old }
 {
-    match frames::read(bytes) {
-        Parsed::Frame(f) => {
-            *fields = fields_of(f);
-            0
-        }
-        Parsed::Refused(k) => k,
-    }
+    place(frames::read(bytes).map(fields_of), fields)
 }
 
 pub fn omh_write_frame(
@@ -407,17 +381,7 @@ pub fn omh_fill(
 pub fn omh_bound(n: usize, m: usize, statuses: &[u8], held: &mut i32) -> u8
     ensures { outcome result held.new ≡ placed_as bit (bound_asked (rack_spec n m) statuses.now) held.old }
 {
-    match bound::bound(Rack { n, m }, statuses) {
-        Bounded::Held => {
-            *held = 1;
-            0
-        }
-        Bounded::NotHeld => {
-            *held = 0;
-            0
-        }
-        Bounded::Refused(k) => k,
-    }
+    place(bound::bound(Rack { n, m }, statuses).map(i32::from), held)
 }
 
 // ---- the outcome of exchanges

@@ -2,7 +2,7 @@
 use Rattle.std.specs.Prelude.{ℕ, not, ◌&&◌, List, [], ◌∷◌, ◌++◌, eqb, ℤ, length, set, replicate}
 use Rattle.ground.specs.Refusal as refusal
 use Rattle.ground.specs.Checks.{Check, check, verdict}
-use Rattle.ground.specs.Answer.{Answer, Outcome, outcome, after, outcome_by}
+use Rattle.ground.specs.Answer.{Answer, answer, Outcome, outcome, after, outcome_by}
 use Rattle.words.specs.Word.{E}
 use Rattle.settings.specs.Settings.{most_cards, turn_checks}
 use Rattle.settings.specs.declared.Turn.{Turn}
@@ -20,11 +20,9 @@ row_for turn x statuses words = row_of (rule_of turn.rack) (exchange turn x stat
 abbrev pub row_checks : Turn → ℤ → List ℕ → List ℤ → List Check
 row_checks turn x statuses words = turn_checks turn ++ value_checks turn.rack x statuses (inputs_long statuses words)
 
--- the number, 0 for none, and the row, from ten E
-unfoldable pub row_made : Turn → ℤ → List ℕ → List ℤ → Outcome ℕ (List ℤ)
-row_made turn x statuses words =
-    let v = verdict (row_checks turn x statuses words) in
-    outcome v (after v (replicate most_cards E) (row_for turn x statuses words))
+-- the row made
+unfoldable pub row_made : Turn → ℤ → List ℕ → List ℤ → Answer (List ℤ)
+row_made turn x statuses words = answer (verdict (row_checks turn x statuses words)) (row_for turn x statuses words)
 
 -- the number, and the outcome
 unfoldable pub row_asked : Turn → ℤ → List ℕ → List ℤ → List (List ℤ) → Outcome ℕ (List (List ℤ))

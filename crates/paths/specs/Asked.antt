@@ -2,24 +2,12 @@
 use Rattle.std.specs.Prelude.{ℕ, zero, suc, Bool, false, not, cond, ◌&&◌, ◌||◌, List, [], ◌∷◌, eqb, ltb, leb}
 use Rattle.ground.specs.Refusal as refusal
 use Rattle.ground.specs.Checks.{Check, check, verdict}
-use Rattle.ground.specs.Answer.{Answer, value, refused, answer, Outcome, outcome}
+use Rattle.ground.specs.Answer.{Answer, answer, Outcome, outcome}
 use Rattle.ground.specs.Lists.{all}
 use Rattle.settings.specs.Settings.{most_cards, most_rounds, slots, settings_checks}
 use Rattle.settings.specs.declared.Settings.{Settings}
 use Rattle.paths.specs.Slots.{slot_of, above, level, relays, live}
 use Rattle.paths.specs.Walk.{take_out}
-use Rattle.paths.specs.declared.Place.{Place}
-use Rattle.paths.specs.declared.Place.TheVariants as place
-use Rattle.paths.specs.declared.Liveness.{Liveness}
-use Rattle.paths.specs.declared.Liveness.TheVariants as liveness
-
-abbrev pub of_place : Place → Answer ℕ
-of_place (place.Slot k) = value k
-of_place (place.Refused k) = refused k
-
-abbrev pub of_liveness : Liveness → Answer Bool
-of_liveness (liveness.Live b) = value b
-of_liveness (liveness.Refused k) = refused k
 
 -- the relays that a path of this level uses, the last first; the others are not looked at
 unfoldable pub used : ℕ → ℕ → ℕ → ℕ → List ℕ

@@ -3,63 +3,51 @@
 #![tactic(auto)]
 
 ghost use Rattle.std.specs.Prelude.{◌≡◌, false, ◌<◌, length, set};
-ghost use Rattle.ground.specs.Answer.{outcome};
+ghost use Rattle.ground.specs.Answer.{outcome, of_result};
 ghost use Rattle.ground.specs.Lists.{table};
 ghost use Rattle.settings.specs.Settings.{most_cards, slots};
 ghost use Rattle.paths.specs.Slots.{above as above_spec, last_relay, level, relays, may_relay, rounds_left};
-ghost use Rattle.paths.specs.Asked.{of_place, of_liveness, slot_asked, above_asked, live_asked, live_in};
+ghost use Rattle.paths.specs.Asked.{slot_asked, above_asked, live_asked, live_in};
 ghost use Rattle.paths.specs.Walk.{take_out};
 
-use ground::refusal;
+use ground::refusal::Refusal;
 use settings::Settings;
 
-#[derive(Clone, Copy)]
-pub enum Place {
-    Slot(usize),
-    Refused(u8),
-}
-
-#[derive(Clone, Copy)]
-pub enum Liveness {
-    Live(bool),
-    Refused(u8),
-}
-
 // The slot of a path by its level and relays; the relays that the level does not use are not looked at.
-pub fn slot_of(level: usize, q1: usize, q2: usize, q3: usize) -> Place
-    ensures { of_place result ≡ slot_asked level q1 q2 q3 }
+pub fn slot_of(level: usize, q1: usize, q2: usize, q3: usize) -> Result<usize, Refusal>
+    ensures { of_result result ≡ slot_asked level q1 q2 q3 }
 {
     if Settings::MAX_ROUNDS < level {
-        return Place::Refused(refusal::PATH);
+        return Err(Refusal::Path);
     }
     if level == 0 {
-        return Place::Slot(0);
+        return Ok(0);
     }
     if Settings::MAX_CARDS <= q1 {
-        return Place::Refused(refusal::PATH);
+        return Err(Refusal::Path);
     }
     if level == 1 {
-        return Place::Slot(1 + q1);
+        return Ok(1 + q1);
     }
     if Settings::MAX_CARDS <= q2 {
-        return Place::Refused(refusal::PATH);
+        return Err(Refusal::Path);
     }
     if level == 2 {
-        return Place::Slot(11 + 10 * q1 + q2);
+        return Ok(11 + 10 * q1 + q2);
     }
     if Settings::MAX_CARDS <= q3 {
-        return Place::Refused(refusal::PATH);
+        return Err(Refusal::Path);
     }
-    Place::Slot(111 + 100 * q1 + 10 * q2 + q3)
+    Ok(111 + 100 * q1 + 10 * q2 + q3)
 }
 
-pub fn slot_above(slot: usize) -> Place
-    ensures { of_place result ≡ above_asked slot }
+pub fn slot_above(slot: usize) -> Result<usize, Refusal>
+    ensures { of_result result ≡ above_asked slot }
 {
     if (slot == 0) | (Settings::SLOTS <= slot) {
-        return Place::Refused(refusal::PATH);
+        return Err(Refusal::Path);
     }
-    Place::Slot(above(slot))
+    Ok(above(slot))
 }
 
 // The slot above a slot over 0; 0 for 0.
@@ -158,13 +146,10 @@ pub fn live_in(s: Settings, members: &mut [bool; Settings::MAX_CARDS], slot: usi
     take_out(members, slot)
 }
 
-pub fn is_live(s: Settings, slot: usize) -> Liveness
-    ensures { of_liveness result ≡ live_asked s slot }
+pub fn is_live(s: Settings, slot: usize) -> Result<bool, Refusal>
+    ensures { of_result result ≡ live_asked s slot }
 {
-    let no = settings::settings_refused(s);
-    if no != 0 {
-        return Liveness::Refused(no);
-    }
+    settings::settings_refused(s)?;
     let mut members = may_relay(s);
-    Liveness::Live(live_in(s, &mut members, slot))
+    Ok(live_in(s, &mut members, slot))
 }

@@ -8,10 +8,6 @@ use Rattle.vote.specs.Vote.{decided}
 use Rattle.vote.specs.Members.{member_vote, members_votes, Asked}
 use Rattle.book.specs.Book.{Book, book_of, Sized}
 
--- the book whose votes stand in `list` from place `first` on: its words are a list of their own where that is 0, else they stand before the votes
-abbrev pub book_in : List ℤ → List ℤ → ℕ → Book
-book_in words list first = book_of (cond (eqb first 0) words (take first list)) (drop first list)
-
 -- what putting in is asked: what the vote's instance is, and whole votes
 pub record Fills (b : Book) (members : List Bool) (r d k : ℕ) : Type 0 where
   pub asked : Asked b.words members r d k

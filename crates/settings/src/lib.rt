@@ -4,38 +4,34 @@
 
 ghost use Rattle.std.specs.Prelude.{◌≡◌};
 ghost use Rattle.ground.specs.Checks.{verdict};
+ghost use Rattle.ground.specs.Answer.{refusal_of, of_result};
 ghost use Rattle.ground.specs.Lists.{table};
 ghost use Rattle.settings.specs.Settings.{most_cards, fits, cards, rack_checks, turn_checks, settings_checks};
-ghost use Rattle.settings.specs.Asked.{of_checked, settings_asked};
+ghost use Rattle.settings.specs.Asked.{settings_asked};
 
 use ground::refusal;
+use ground::refusal::Refusal;
 
 // n cards, numbered from 0, and m rounds of relay.
-#[derive(Clone, Copy)]
+#[derive(Clone, Copy, Debug, PartialEq, Eq)]
 pub struct Rack {
     pub n: usize,
     pub m: usize,
 }
 
 // A rack, and the sender t.
-#[derive(Clone, Copy)]
+#[derive(Clone, Copy, Debug, PartialEq, Eq)]
 pub struct Turn {
     pub rack: Rack,
     pub t: usize,
 }
 
 // A rack, the sender t and the own card p.
-#[derive(Clone, Copy)]
+#[derive(Clone, Copy, Debug, PartialEq, Eq)]
 pub struct Settings {
     pub rack: Rack,
     pub t: usize,
     pub p: usize,
-}
-
-#[derive(Clone, Copy)]
-pub enum Checked {
-    Good(Settings),
-    Refused(u8),
 }
 
 // Ten cards that fit, then ten that do not.
@@ -51,16 +47,13 @@ impl Settings {
 
     pub const SLOTS: usize = 1111;
 
-    pub fn new(n: usize, m: usize, t: usize, p: usize) -> Checked
-        ensures { of_checked result ≡ settings_asked n m t p }
+    pub fn new(n: usize, m: usize, t: usize, p: usize) -> Result<Settings, Refusal>
+        ensures { of_result result ≡ settings_asked n m t p }
     {
         let rack = Rack { n, m };
         let s = Settings { rack, t, p };
-        let no = settings_refused(s);
-        if no != 0 {
-            return Checked::Refused(no);
-        }
-        Checked::Good(s)
+        settings_refused(s)?;
+        Ok(s)
     }
 }
 
@@ -95,45 +88,33 @@ pub fn fitted(rack: Rack) -> [bool; Settings::MAX_CARDS]
     found
 }
 
-// The refusal number of a rack; 0 for none.
-pub fn rack_refused(rack: Rack) -> u8
-    ensures { result ≡ verdict (rack_checks rack) }
+// Whether a rack is refused: `Err` where it is.
+pub fn rack_refused(rack: Rack) -> Result<(), Refusal>
+    ensures { refusal_of result ≡ verdict (rack_checks rack) }
 {
     let n = cards(rack);
     if (n == 0) | (Settings::MAX_CARDS < n) {
-        return refusal::CARDS;
+        return Err(Refusal::Cards);
     }
     if (Settings::MAX_ROUNDS < rack.m) | (n <= rack.m) {
-        return refusal::ROUNDS;
+        return Err(Refusal::Rounds);
     }
-    0
+    Ok(())
 }
 
 // The same with the sender.
-pub fn turn_refused(turn: Turn) -> u8
-    ensures { result ≡ verdict (turn_checks turn) }
+pub fn turn_refused(turn: Turn) -> Result<(), Refusal>
+    ensures { refusal_of result ≡ verdict (turn_checks turn) }
 {
-    let no = rack_refused(turn.rack);
-    if no != 0 {
-        return no;
-    }
-    if !fits(turn.rack, turn.t) {
-        return refusal::SENDER;
-    }
-    0
+    rack_refused(turn.rack)?;
+    refusal::when(!fits(turn.rack, turn.t), Refusal::Sender)
 }
 
-// The same with the own card: the refusal number of settings.
-pub fn settings_refused(s: Settings) -> u8
-    ensures { result ≡ verdict (settings_checks s) }
+// The same with the own card: whether settings are refused.
+pub fn settings_refused(s: Settings) -> Result<(), Refusal>
+    ensures { refusal_of result ≡ verdict (settings_checks s) }
 {
     let rack = s.rack;
-    let no = turn_refused(Turn { rack, t: s.t });
-    if no != 0 {
-        return no;
-    }
-    if !fits(rack, s.p) {
-        return refusal::OWN;
-    }
-    0
+    turn_refused(Turn { rack, t: s.t })?;
+    refusal::when(!fits(rack, s.p), Refusal::Own)
 }

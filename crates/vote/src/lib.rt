@@ -4,13 +4,14 @@
 
 ghost use Rattle.std.specs.Prelude.{◌≡◌, ◌+◌};
 ghost use Rattle.ground.specs.Checks.{verdict};
-ghost use Rattle.ground.specs.Answer.{of_told};
+ghost use Rattle.ground.specs.Answer.{refusal_of, of_result};
 ghost use Rattle.words.specs.Rule.{omh};
 ghost use Rattle.vote.specs.Vote.{rule_of, decided, vote};
 ghost use Rattle.vote.specs.Members.{member_vote, members_votes, Asked, Whole};
 ghost use Rattle.vote.specs.Asked.{words_checks, vote_asked, answer_asked};
 
-use ground::{Told, refusal};
+use ground::refusal;
+use ground::refusal::Refusal;
 use settings::Settings;
 use words::E;
 
@@ -84,37 +85,32 @@ fn vote_of(
     over_members(words, members, own, left - 1, d, slot)
 }
 
-// The refusal number of a call over words; 0 for none.
-fn words_refused(s: Settings, words: &[i32]) -> u8
-    ensures { result ≡ verdict (words_checks s words.now) }
+// Whether a call over words is refused.
+fn words_refused(s: Settings, words: &[i32]) -> Result<(), Refusal>
+    ensures { refusal_of result ≡ verdict (words_checks s words.now) }
 {
     refusal::first(
         settings::settings_refused(s),
-        refusal::when(words.len() != Settings::SLOTS, refusal::LONG),
+        refusal::when(words.len() != Settings::SLOTS, Refusal::Long),
     )
 }
 
 // The vote at a slot.
-pub fn vote_at(s: Settings, words: &[i32], slot: usize) -> Told
-    ensures { of_told result ≡ vote_asked s words.now slot }
+pub fn vote_at(s: Settings, words: &[i32], slot: usize) -> Result<i32, Refusal>
+    ensures { of_result result ≡ vote_asked s words.now slot }
 {
     let mut members = paths::may_relay(s);
     let live = paths::live_in(s, &mut members, slot);
-    let no = refusal::first(words_refused(s, words), refusal::when(!live, refusal::PATH));
-    if no != 0 {
-        return Told::Refused(no);
-    }
-    Told::Word(vote_of(s, words, &mut members, slot))
+    words_refused(s, words)?;
+    refusal::when(!live, Refusal::Path)?;
+    Ok(vote_of(s, words, &mut members, slot))
 }
 
 // The answer: the vote at slot 0.
-pub fn answer(s: Settings, words: &[i32]) -> Told
-    ensures { of_told result ≡ answer_asked s words.now }
+pub fn answer(s: Settings, words: &[i32]) -> Result<i32, Refusal>
+    ensures { of_result result ≡ answer_asked s words.now }
 {
-    let no = words_refused(s, words);
-    if no != 0 {
-        return Told::Refused(no);
-    }
+    words_refused(s, words)?;
     let mut members = paths::may_relay(s);
-    Told::Word(vote_of(s, words, &mut members, 0))
+    Ok(vote_of(s, words, &mut members, 0))
 }

@@ -8,7 +8,7 @@ use Rattle.vote.specs.Vote.{rule_of}
 use Rattle.book.specs.Book.{Book, book_of}
 use Rattle.book.specs.Asked.{book_checks}
 use Rattle.entering.specs.Entered.{entered}
-use Rattle.entering.specs.Run.{Entry}
+use Rattle.entering.specs.declared.Entry.{Entry}
 use Rattle.entering.specs.Asked.{enter_asked}
 use Rattle.frames.specs.Frame.{frame_of}
 use Rattle.frames.specs.Asked.{read_checks}

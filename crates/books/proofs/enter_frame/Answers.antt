@@ -8,7 +8,7 @@ use Rattle.ground.proofs.Bits.{back_is}
 use Rattle.settings.specs.declared.Settings.{Settings}
 use Rattle.vote.specs.Vote.{rule_of}
 use Rattle.entering.specs.Entered.{entered}
-use Rattle.entering.specs.Run.{Entry}
+use Rattle.entering.specs.declared.Entry.{Entry}
 use Rattle.frames.specs.Frame.{frame_of}
 use Rattle.frames.specs.Asked.{read_checks}
 use Rattle.arrivals.specs.Entry.{of_carried, entry_asked}
