@@ -11,8 +11,9 @@ use lib.IntN.{ℤ}
 use lib.ListN.{length, replicate, take, drop, take-append-drop, drop_of_length-le, length-drop, length-append, length-replicate}
 use lib.Seq.{length-take-le, take_all, take_at, drop_at}
 use borrow.Author.Tests.{eq-eqb, ne_eqb}
-use Rattle.ground.specs.Answer.{Outcome, outcome, of_done}
-use Rattle.ground.specs.declared.Done.{Done}
+use Rattle.ground.specs.Answer.{Outcome, outcome, of_result}
+use Rattle.std.specs.Prelude.{Result}
+use Rattle.ground.specs.declared.refusal.Refusal.{Refusal}
 use Rattle.ground.proofs.Answers.{outcome_apart}
 use Rattle.settings.specs.Settings.{slots}
 use Rattle.book.specs.Book.{Book, book_of, halves, sized, Sized}
@@ -30,10 +31,10 @@ halves_apart l m e =
     ∙ take-append-drop slots m
 
 -- so an outcome of a book in one list fixes the list
-pub part_apart : (x y : Done) {l m : List ℤ} → outcome (of_done x) (halves l) ≡ outcome (of_done y) (halves m) → outcome x l ≡ outcome y m
+pub part_apart : (x y : (Result (Unit {0}) Refusal)) {l m : List ℤ} → outcome (of_result x) (halves l) ≡ outcome (of_result y) (halves m) → outcome x l ≡ outcome y m
 part_apart x y {l} {m} e =
     let both = outcome_apart x y e in
-    ap₂ outcome (ap (λ (o : Outcome Done Book). o.yields) both) (halves_apart l m (ap (λ (o : Outcome Done Book). o.leaves) both))
+    ap₂ outcome (ap (λ (o : Outcome (Result (Unit {0}) Refusal) Book). o.yields) both) (halves_apart l m (ap (λ (o : Outcome (Result (Unit {0}) Refusal) Book). o.leaves) both))
 
 -- both halves have their right length where the list has that of both
 pub halves-sized : (l : List ℤ) → length l ≡ 2222 → Sized (halves l)

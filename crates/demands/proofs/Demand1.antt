@@ -1,15 +1,15 @@
 -- Demand 1: bad input gets the refusal number of document 01's table, by the stated order of checks (`Orders.antt`); no refusal is given on other grounds; a refusal changes nothing that is lent. A theorem to an entry point, of every call that its contract allows: argument i is `a` with i times `.1` and then `.0`, and a lent list at exit the same of `s`.
-use Rattle.ground.specs.Answer.{of_told, of_done}
+use Rattle.ground.specs.Answer.{of_result, of_result}
 use Rattle.ground.specs.Fixes.{Allows}
 use Rattle.settings.specs.Settings.{rack_checks, turn_checks, settings_checks}
-use Rattle.settings.specs.Asked.{of_checked, settings}
-use Rattle.paths.specs.Asked.{of_place, of_liveness, path_checks, slot_asked, above_checks, above_asked, live_asked}
+use Rattle.settings.specs.Asked.{of_result, settings}
+use Rattle.paths.specs.Asked.{of_result, of_result, path_checks, slot_asked, above_checks, above_asked, live_asked}
 use Rattle.vote.specs.Asked as vote
 use Rattle.vote.specs.Asked.{words_checks, vote_checks, vote_asked}
 use Rattle.book.specs.Book.{book_of, halves}
 use Rattle.book.specs.Asked.{book_checks, slot_checks, held_checks}
-use Rattle.frames.specs.Asked.{of_parsed, read_checks, read_asked, write_checks, write_asked}
-use Rattle.arrivals.specs.Entry.{of_carried, entry_checks, entry_asked, arrival_checks, frame_asked}
+use Rattle.frames.specs.Asked.{of_result, read_checks, read_asked, write_checks, write_asked}
+use Rattle.arrivals.specs.Entry.{of_result, entry_checks, entry_asked, arrival_checks, frame_asked}
 use Rattle.books.specs.Books.{books_checks, books_slot_checks}
 use Rattle.books.specs.Asked.{books_open_asked, books_enter_asked, books_refill_asked, books_frame_checks, books_frame_asked}
 use Rattle.exchange.specs.Asked.{status_checks, value_checks}
@@ -17,8 +17,8 @@ use Rattle.bench.specs.Asked as bench
 use Rattle.bench.specs.Asked.{answer_checks, answers_checks, answers_asked}
 use Rattle.outcomes.specs.Asked.{row_checks, row_asked, start_checks, start_asked, list_checks, list_asked}
 use Rattle.dealing.specs.Asked.{word_checks, word_asked, fill_checks, fill_asked}
-use Rattle.bound.specs.Bound.{of_bounded, bound_checks, bound_asked}
-use Rattle.files.specs.File.{of_headed, file_checks, file_asked}
+use Rattle.bound.specs.Bound.{of_result, bound_checks, bound_asked}
+use Rattle.files.specs.File.{of_result, file_checks, file_asked}
 use Rattle.demands.specs.Refusing.{Refuses, Numbers, Judged, Counted}
 use Rattle.demands.proofs.Order.{by_answer, by_outcome, by_part, by_state, by_verdict}
 use Rattle.settings.proofs.Settings.new.Kinds as new
@@ -102,112 +102,112 @@ use Rattle.exchange.proofs.values_refused.Reads as values_refused_says
 
 -- ---- settings and paths
 
-pub new_refuses : Allows 0 new.ps new.r new_says.Post (λ κs a x s. Judged (settings_checks (settings a.0 a.1.0 a.1.1.0 a.1.1.1.0)) (of_checked x))
+pub new_refuses : Allows 0 new.ps new.r new_says.Post (λ κs a x s. Judged (settings_checks (settings a.0 a.1.0 a.1.1.0 a.1.1.1.0)) (of_result x))
 new_refuses κs a x s p = by_answer _ _ p
 
-pub slot_of_refuses : Allows 0 slot_of.ps slot_of.r slot_of_says.Post (λ κs a x s. Judged (path_checks a.0 a.1.0 a.1.1.0 a.1.1.1.0) (of_place x))
+pub slot_of_refuses : Allows 0 slot_of.ps slot_of.r slot_of_says.Post (λ κs a x s. Judged (path_checks a.0 a.1.0 a.1.1.0 a.1.1.1.0) (of_result x))
 unfolding slot_asked
 slot_of_refuses κs a x s p = by_answer _ _ p
 
-pub slot_above_refuses : Allows 0 slot_above.ps slot_above.r slot_above_says.Post (λ κs a x s. Judged (above_checks a.0) (of_place x))
+pub slot_above_refuses : Allows 0 slot_above.ps slot_above.r slot_above_says.Post (λ κs a x s. Judged (above_checks a.0) (of_result x))
 unfolding above_asked
 slot_above_refuses κs a x s p = by_answer _ _ p
 
-pub is_live_refuses : Allows 0 is_live.ps is_live.r is_live_says.Post (λ κs a x s. Judged (settings_checks a.0) (of_liveness x))
+pub is_live_refuses : Allows 0 is_live.ps is_live.r is_live_says.Post (λ κs a x s. Judged (settings_checks a.0) (of_result x))
 unfolding live_asked
 is_live_refuses κs a x s p = by_answer _ _ p
 
 -- ---- the vote
 
-pub vote_at_refuses : Allows 1 vote_at.ps vote_at.r vote_at_says.Post (λ κs a x s. Judged (vote_checks a.0 a.1.0.now a.1.1.0) (of_told x))
+pub vote_at_refuses : Allows 1 vote_at.ps vote_at.r vote_at_says.Post (λ κs a x s. Judged (vote_checks a.0 a.1.0.now a.1.1.0) (of_result x))
 unfolding vote_asked
 vote_at_refuses κs a x s p = by_answer _ _ p
 
-pub answer_refuses : Allows 1 answer.ps answer.r answer_says.Post (λ κs a x s. Judged (words_checks a.0 a.1.0.now) (of_told x))
+pub answer_refuses : Allows 1 answer.ps answer.r answer_says.Post (λ κs a x s. Judged (words_checks a.0 a.1.0.now) (of_result x))
 unfolding vote.answer_asked
 answer_refuses κs a x s p = by_answer _ _ p
 
 -- ---- the book
 
-pub opening_refuses : Allows 2 opening.ps opening.r opening_says.Post (λ κs a x s. Refuses (book_checks a.0 (book_of a.1.0.now a.1.1.0.now)) (of_done x) (book_of a.1.0.now a.1.1.0.now) (book_of s.1.0.now s.1.1.0.now))
+pub opening_refuses : Allows 2 opening.ps opening.r opening_says.Post (λ κs a x s. Refuses (book_checks a.0 (book_of a.1.0.now a.1.1.0.now)) (of_result x) (book_of a.1.0.now a.1.1.0.now) (book_of s.1.0.now s.1.1.0.now))
 opening_refuses κs a x s p = by_outcome _ _ p
 
-pub enter_refuses : Allows 2 enter.ps enter.r enter_says.Post (λ κs a x s. Refuses (slot_checks a.0 (book_of a.1.0.now a.1.1.0.now) a.1.1.1.0) (of_done x) (book_of a.1.0.now a.1.1.0.now) (book_of s.1.0.now s.1.1.0.now))
+pub enter_refuses : Allows 2 enter.ps enter.r enter_says.Post (λ κs a x s. Refuses (slot_checks a.0 (book_of a.1.0.now a.1.1.0.now) a.1.1.1.0) (of_result x) (book_of a.1.0.now a.1.1.0.now) (book_of s.1.0.now s.1.1.0.now))
 enter_refuses κs a x s p = by_outcome _ _ p
 
 -- its words are lent to be read only
-pub refill_refuses : Allows 2 refill.ps refill.r refill_says.Post (λ κs a x s. Refuses (book_checks a.0 (book_of a.1.0.now a.1.1.0.now)) (of_done x) (book_of a.1.0.now a.1.1.0.now) (book_of a.1.0.now s.1.1.0.now))
+pub refill_refuses : Allows 2 refill.ps refill.r refill_says.Post (λ κs a x s. Refuses (book_checks a.0 (book_of a.1.0.now a.1.1.0.now)) (of_result x) (book_of a.1.0.now a.1.1.0.now) (book_of a.1.0.now s.1.1.0.now))
 refill_refuses κs a x s p = by_outcome _ _ p
 
-pub held_answer_refuses : Allows 2 held_answer.ps held_answer.r held_answer_says.Post (λ κs a x s. Judged (held_checks (book_of a.0.now a.1.0.now)) (of_told x))
+pub held_answer_refuses : Allows 2 held_answer.ps held_answer.r held_answer_says.Post (λ κs a x s. Judged (held_checks (book_of a.0.now a.1.0.now)) (of_result x))
 held_answer_refuses κs a x s p = by_answer _ _ p
 
 -- ---- a book in one list
 
-pub open_part_refuses : Allows 1 open_part.ps open_part.r open_part_says.Post (λ κs a x s. Refuses (book_checks a.0 (halves a.1.0.now)) (of_done x) a.1.0.now s.1.0.now)
+pub open_part_refuses : Allows 1 open_part.ps open_part.r open_part_says.Post (λ κs a x s. Refuses (book_checks a.0 (halves a.1.0.now)) (of_result x) a.1.0.now s.1.0.now)
 open_part_refuses κs a x s p = by_part _ _ p
 
-pub enter_part_refuses : Allows 1 enter_part.ps enter_part.r enter_part_says.Post (λ κs a x s. Refuses (slot_checks a.0 (halves a.1.0.now) a.1.1.0) (of_done x) a.1.0.now s.1.0.now)
+pub enter_part_refuses : Allows 1 enter_part.ps enter_part.r enter_part_says.Post (λ κs a x s. Refuses (slot_checks a.0 (halves a.1.0.now) a.1.1.0) (of_result x) a.1.0.now s.1.0.now)
 enter_part_refuses κs a x s p = by_part _ _ p
 
-pub refill_part_refuses : Allows 1 refill_part.ps refill_part.r refill_part_says.Post (λ κs a x s. Refuses (book_checks a.0 (halves a.1.0.now)) (of_done x) a.1.0.now s.1.0.now)
+pub refill_part_refuses : Allows 1 refill_part.ps refill_part.r refill_part_says.Post (λ κs a x s. Refuses (book_checks a.0 (halves a.1.0.now)) (of_result x) a.1.0.now s.1.0.now)
 refill_part_refuses κs a x s p = by_part _ _ p
 
 -- ---- the long list
 
-pub books_open_refuses : Allows 1 books_open.ps books_open.r books_open_says.Post (λ κs a x s. Refuses (books_checks a.0 a.1.0.now) (of_done x) a.1.0.now s.1.0.now)
+pub books_open_refuses : Allows 1 books_open.ps books_open.r books_open_says.Post (λ κs a x s. Refuses (books_checks a.0 a.1.0.now) (of_result x) a.1.0.now s.1.0.now)
 unfolding books_open_asked
 books_open_refuses κs a x s p = by_outcome _ _ p
 
-pub books_enter_refuses : Allows 1 books_enter.ps books_enter.r books_enter_says.Post (λ κs a x s. Refuses (books_slot_checks a.0 a.1.0.now a.1.1.0) (of_done x) a.1.0.now s.1.0.now)
+pub books_enter_refuses : Allows 1 books_enter.ps books_enter.r books_enter_says.Post (λ κs a x s. Refuses (books_slot_checks a.0 a.1.0.now a.1.1.0) (of_result x) a.1.0.now s.1.0.now)
 unfolding books_enter_asked
 books_enter_refuses κs a x s p = by_outcome _ _ p
 
-pub books_refill_refuses : Allows 1 books_refill.ps books_refill.r books_refill_says.Post (λ κs a x s. Refuses (books_checks a.0 a.1.0.now) (of_done x) a.1.0.now s.1.0.now)
+pub books_refill_refuses : Allows 1 books_refill.ps books_refill.r books_refill_says.Post (λ κs a x s. Refuses (books_checks a.0 a.1.0.now) (of_result x) a.1.0.now s.1.0.now)
 unfolding books_refill_asked
 books_refill_refuses κs a x s p = by_outcome _ _ p
 
 -- ---- frames
 
-pub read_refuses : Allows 1 read.ps read.r read_says.Post (λ κs a x s. Judged (read_checks a.0.now) (of_parsed x))
+pub read_refuses : Allows 1 read.ps read.r read_says.Post (λ κs a x s. Judged (read_checks a.0.now) (of_result x))
 unfolding read_asked
 read_refuses κs a x s p = by_answer _ _ p
 
-pub write_refuses : Allows 1 write.ps write.r write_says.Post (λ κs a x s. Refuses (write_checks a.0 a.1.0.now) (of_done x) a.1.0.now s.1.0.now)
+pub write_refuses : Allows 1 write.ps write.r write_says.Post (λ κs a x s. Refuses (write_checks a.0 a.1.0.now) (of_result x) a.1.0.now s.1.0.now)
 unfolding write_asked
 write_refuses κs a x s p = by_outcome _ _ p
 
-pub enter_frame_refuses : Allows 3 enter_frame.ps enter_frame.r enter_frame_says.Post (λ κs a x s. Refuses (arrival_checks a.0 (book_of a.1.0.now a.1.1.0.now) a.1.1.1.0 a.1.1.1.1.0.now) (of_done x) (book_of a.1.0.now a.1.1.0.now) (book_of s.1.0.now s.1.1.0.now))
+pub enter_frame_refuses : Allows 3 enter_frame.ps enter_frame.r enter_frame_says.Post (λ κs a x s. Refuses (arrival_checks a.0 (book_of a.1.0.now a.1.1.0.now) a.1.1.1.0 a.1.1.1.1.0.now) (of_result x) (book_of a.1.0.now a.1.1.0.now) (book_of s.1.0.now s.1.1.0.now))
 unfolding frame_asked
 enter_frame_refuses κs a x s p = by_outcome _ _ p
 
-pub entry_of_refuses : Allows 0 entry_of.ps entry_of.r entry_of_says.Post (λ κs a x s. Judged (entry_checks a.0 a.1.0 a.1.1.0) (of_carried x))
+pub entry_of_refuses : Allows 0 entry_of.ps entry_of.r entry_of_says.Post (λ κs a x s. Judged (entry_checks a.0 a.1.0 a.1.1.0) (of_result x))
 unfolding entry_asked
 entry_of_refuses κs a x s p = by_answer _ _ p
 
-pub books_enter_frame_refuses : Allows 2 books_enter_frame.ps books_enter_frame.r books_enter_frame_says.Post (λ κs a x s. Refuses (books_frame_checks a.0 a.1.0.now a.1.1.0 a.1.1.1.0.now) (of_done x) a.1.0.now s.1.0.now)
+pub books_enter_frame_refuses : Allows 2 books_enter_frame.ps books_enter_frame.r books_enter_frame_says.Post (λ κs a x s. Refuses (books_frame_checks a.0 a.1.0.now a.1.1.0 a.1.1.1.0.now) (of_result x) a.1.0.now s.1.0.now)
 unfolding books_frame_asked
 books_enter_frame_refuses κs a x s p = by_outcome _ _ p
 
 -- ---- the bench
 
-pub word_for_refuses : Allows 2 word_for.ps word_for.r word_for_says.Post (λ κs a x s. Judged (word_checks a.0 a.1.0 a.1.1.0.now a.1.1.1.0.now a.1.1.1.1.0) (of_told x))
+pub word_for_refuses : Allows 2 word_for.ps word_for.r word_for_says.Post (λ κs a x s. Judged (word_checks a.0 a.1.0 a.1.1.0.now a.1.1.1.0.now a.1.1.1.1.0) (of_result x))
 unfolding word_asked
 word_for_refuses κs a x s p = by_answer _ _ p
 
-pub answer_for_refuses : Allows 2 answer_for.ps answer_for.r answer_for_says.Post (λ κs a x s. Judged (answer_checks a.0 a.1.0 a.1.1.0.now a.1.1.1.0.now) (of_told x))
+pub answer_for_refuses : Allows 2 answer_for.ps answer_for.r answer_for_says.Post (λ κs a x s. Judged (answer_checks a.0 a.1.0 a.1.1.0.now a.1.1.1.0.now) (of_result x))
 unfolding bench.answer_for_asked
 answer_for_refuses κs a x s p = by_answer _ _ p
 
-pub all_answers_refuses : Allows 3 all_answers.ps all_answers.r all_answers_says.Post (λ κs a x s. Refuses (answers_checks a.0 a.1.0 a.1.1.0.now a.1.1.1.0.now a.1.1.1.1.0.now) (of_done x) a.1.1.1.1.0.now s.1.1.1.1.0.now)
+pub all_answers_refuses : Allows 3 all_answers.ps all_answers.r all_answers_says.Post (λ κs a x s. Refuses (answers_checks a.0 a.1.0 a.1.1.0.now a.1.1.1.0.now a.1.1.1.1.0.now) (of_result x) a.1.1.1.1.0.now s.1.1.1.1.0.now)
 unfolding answers_asked
 all_answers_refuses κs a x s p = by_outcome _ _ p
 
-pub fill_refuses : Allows 4 fill.ps fill.r fill_says.Post (λ κs a x s. Refuses (fill_checks a.0 a.1.0 a.1.1.0.now a.1.1.1.0.now (book_of a.1.1.1.1.0.now a.1.1.1.1.1.0.now)) (of_done x) (book_of a.1.1.1.1.0.now a.1.1.1.1.1.0.now) (book_of s.1.1.1.1.0.now s.1.1.1.1.1.0.now))
+pub fill_refuses : Allows 4 fill.ps fill.r fill_says.Post (λ κs a x s. Refuses (fill_checks a.0 a.1.0 a.1.1.0.now a.1.1.1.0.now (book_of a.1.1.1.1.0.now a.1.1.1.1.1.0.now)) (of_result x) (book_of a.1.1.1.1.0.now a.1.1.1.1.1.0.now) (book_of s.1.1.1.1.0.now s.1.1.1.1.1.0.now))
 unfolding fill_asked
 fill_refuses κs a x s p = by_outcome _ _ p
 
-pub bound_refuses : Allows 1 bound.ps bound.r bound_says.Post (λ κs a x s. Judged (bound_checks a.0 a.1.0.now) (of_bounded x))
+pub bound_refuses : Allows 1 bound.ps bound.r bound_says.Post (λ κs a x s. Judged (bound_checks a.0 a.1.0.now) (of_result x))
 unfolding bound_asked
 bound_refuses κs a x s p = by_answer _ _ p
 
@@ -218,17 +218,17 @@ pub set_row_refuses : Allows 3 set_row.ps set_row.r set_row_says.Post (λ κs a 
 unfolding row_asked
 set_row_refuses κs a x s p = by_state _ _ p
 
-pub start_list_refuses : Allows 1 start_list.ps start_list.r start_list_says.Post (λ κs a x s. Refuses (start_checks a.0.now) (of_done x) a.0.now s.0.now)
+pub start_list_refuses : Allows 1 start_list.ps start_list.r start_list_says.Post (λ κs a x s. Refuses (start_checks a.0.now) (of_result x) a.0.now s.0.now)
 unfolding start_asked
 start_list_refuses κs a x s p = by_outcome _ _ p
 
-pub set_in_list_refuses : Allows 3 set_in_list.ps set_in_list.r set_in_list_says.Post (λ κs a x s. Refuses (list_checks a.0 a.1.0 a.1.1.0.now a.1.1.1.0.now a.1.1.1.1.0.now) (of_done x) a.1.1.1.1.0.now s.1.1.1.1.0.now)
+pub set_in_list_refuses : Allows 3 set_in_list.ps set_in_list.r set_in_list_says.Post (λ κs a x s. Refuses (list_checks a.0 a.1.0 a.1.1.0.now a.1.1.1.0.now a.1.1.1.1.0.now) (of_result x) a.1.1.1.1.0.now s.1.1.1.1.0.now)
 unfolding list_asked
 set_in_list_refuses κs a x s p = by_outcome _ _ p
 
 -- ---- listing files
 
-pub read_file_refuses : Allows 1 read_file.ps read_file.r read_file_says.Post (λ κs a x s. Judged (file_checks a.0.now) (of_headed x))
+pub read_file_refuses : Allows 1 read_file.ps read_file.r read_file_says.Post (λ κs a x s. Judged (file_checks a.0.now) (of_result x))
 unfolding file_asked
 read_file_refuses κs a x s p = by_answer _ _ p
 

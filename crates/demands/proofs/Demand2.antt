@@ -7,7 +7,7 @@ use mathlib.Core.Logic.{◌↔◌}
 use lib.Dec.{T}
 use lib.IntN.{ℤ}
 use lib.ListN.{length}
-use Rattle.ground.specs.Answer.{value, refused, outcome, of_told, of_done}
+use Rattle.ground.specs.Answer.{value, refused, outcome, of_result, of_result}
 use Rattle.ground.specs.Bytes.{AllBytes}
 use Rattle.ground.specs.Fixes.{Allows}
 use Rattle.ground.specs.Lists.{at}
@@ -22,14 +22,14 @@ use Rattle.book.specs.Book.{Book, book_of, held, Sized}
 use Rattle.book.specs.Asked.{held_asked}
 use Rattle.entering.specs.Run.{left_at}
 use Rattle.frames.specs.Frame.{InRange}
-use Rattle.frames.specs.Asked.{of_parsed, read_asked, write_asked}
+use Rattle.frames.specs.Asked.{of_result, read_asked, write_asked}
 use Rattle.frames.specs.declared.Frame.{Frame}
 use Rattle.frames.proofs.Round as round
 use Rattle.arrivals.specs.Run.{Arrival, entries_of, open_arrived}
 use Rattle.exchange.specs.Exchange.{good, symmetric, manifest, statuses_of, exchange, dealt}
 use Rattle.bench.specs.Asked.{answer_for_asked, answers_asked}
 use Rattle.dealing.specs.Asked.{fill_asked}
-use Rattle.bound.specs.Bound.{of_bounded, bound_asked}
+use Rattle.bound.specs.Bound.{of_result, bound_asked}
 use Rattle.agreement.proofs.Demand2.{n, m, a, s, c}
 use Rattle.omh.specs.Numbers as numbers
 use Rattle.omh.specs.Numbers.{rack, frame_with, numbered, placed, placed_as, bit, fields_of}
@@ -65,25 +65,25 @@ use Rattle.omh.proofs.omh_bound.Reads as c_bound_says
 
 -- ---- what the contracts say of a call
 
-pub answer_for_tells : Allows 2 answer-for.ps answer-for.r answer_for_says.Post (λ κs a x e. of_told x ≡ answer_for_asked a.0 a.1.0 a.1.1.0.now a.1.1.1.0.now)
+pub answer_for_tells : Allows 2 answer-for.ps answer-for.r answer_for_says.Post (λ κs a x e. of_result x ≡ answer_for_asked a.0 a.1.0 a.1.1.0.now a.1.1.1.0.now)
 answer_for_tells κs a x e p = p
 
-pub all_answers_leaves : Allows 3 all_answers.ps all_answers.r all_answers_says.Post (λ κs a x e. outcome (of_done x) e.1.1.1.1.0.now ≡ answers_asked a.0 a.1.0 a.1.1.0.now a.1.1.1.0.now a.1.1.1.1.0.now)
+pub all_answers_leaves : Allows 3 all_answers.ps all_answers.r all_answers_says.Post (λ κs a x e. outcome (of_result x) e.1.1.1.1.0.now ≡ answers_asked a.0 a.1.0 a.1.1.0.now a.1.1.1.0.now a.1.1.1.1.0.now)
 all_answers_leaves κs a x e p = p
 
-pub fill_leaves : Allows 4 fill.ps fill.r fill_says.Post (λ κs a x e. outcome (of_done x) (book_of e.1.1.1.1.0.now e.1.1.1.1.1.0.now) ≡ fill_asked a.0 a.1.0 a.1.1.0.now a.1.1.1.0.now (book_of a.1.1.1.1.0.now a.1.1.1.1.1.0.now))
+pub fill_leaves : Allows 4 fill.ps fill.r fill_says.Post (λ κs a x e. outcome (of_result x) (book_of e.1.1.1.1.0.now e.1.1.1.1.1.0.now) ≡ fill_asked a.0 a.1.0 a.1.1.0.now a.1.1.1.0.now (book_of a.1.1.1.1.0.now a.1.1.1.1.1.0.now))
 fill_leaves κs a x e p = p
 
-pub bound_tells : Allows 1 bound.ps bound.r bound_says.Post (λ κs a x e. of_bounded x ≡ bound_asked a.0 a.1.0.now)
+pub bound_tells : Allows 1 bound.ps bound.r bound_says.Post (λ κs a x e. of_result x ≡ bound_asked a.0 a.1.0.now)
 bound_tells κs a x e p = p
 
-pub vote_at_tells : Allows 1 vote_at.ps vote_at.r vote_at_says.Post (λ κs a x e. of_told x ≡ vote_asked a.0 a.1.0.now a.1.1.0)
+pub vote_at_tells : Allows 1 vote_at.ps vote_at.r vote_at_says.Post (λ κs a x e. of_result x ≡ vote_asked a.0 a.1.0.now a.1.1.0)
 vote_at_tells κs a x e p = p
 
-pub read_tells : Allows 1 read.ps read.r read_says.Post (λ κs a x e. of_parsed x ≡ read_asked a.0.now)
+pub read_tells : Allows 1 read.ps read.r read_says.Post (λ κs a x e. of_result x ≡ read_asked a.0.now)
 read_tells κs a x e p = p
 
-pub write_leaves : Allows 1 write.ps write.r write_says.Post (λ κs a x e. outcome (of_done x) e.1.0.now ≡ write_asked a.0 a.1.0.now)
+pub write_leaves : Allows 1 write.ps write.r write_says.Post (λ κs a x e. outcome (of_result x) e.1.0.now ≡ write_asked a.0 a.1.0.now)
 write_leaves κs a x e p = p
 
 -- and so what C gets

@@ -6,7 +6,7 @@ use mathlib.Core.List.{List, Memᴰ}
 use lib.Dec.{T}
 use lib.IntN.{ℤ}
 use Rattle.ground.specs.Checks.{verdict}
-use Rattle.ground.specs.Answer.{value, Outcome, outcome, of_told, of_done}
+use Rattle.ground.specs.Answer.{value, Outcome, outcome, of_result, of_result}
 use Rattle.ground.specs.Fixes.{Allows}
 use Rattle.ground.specs.Lists.{at}
 use Rattle.words.specs.Word.{E}
@@ -65,10 +65,10 @@ enter_leaves κs a x e p = what_left p
 pub frame-leaves : Allows 3 enter_frame.ps enter_frame.r enter_frame_says.Post (λ κs a x e. (book_of e.1.0.now e.1.1.0.now) ≡ left_by a.0 (book_of a.1.0.now a.1.1.0.now) (frame a.1.1.1.0 a.1.1.1.1.0.now))
 frame-leaves κs a x e p = what_left p
 
-pub refill_leaves : Allows 2 refill.ps refill.r refill_says.Post (λ κs a x e. outcome (of_done x) (book_of a.1.0.now e.1.1.0.now) ≡ refill_asked a.0 (book_of a.1.0.now a.1.1.0.now))
+pub refill_leaves : Allows 2 refill.ps refill.r refill_says.Post (λ κs a x e. outcome (of_result x) (book_of a.1.0.now e.1.1.0.now) ≡ refill_asked a.0 (book_of a.1.0.now a.1.1.0.now))
 refill_leaves κs a x e p = p
 
-pub held_tells : Allows 2 held_answer.ps held_answer.r held_answer_says.Post (λ κs a x e. of_told x ≡ held_asked (book_of a.0.now a.1.0.now))
+pub held_tells : Allows 2 held_answer.ps held_answer.r held_answer_says.Post (λ κs a x e. of_result x ≡ held_asked (book_of a.0.now a.1.0.now))
 held_tells κs a x e p = p
 
 -- and so what C gets

@@ -8,7 +8,7 @@ use lib.Dec.{T}
 use lib.IntN.{ℤ}
 use lib.ListN.{length}
 use Rattle.ground.specs.Checks.{verdict}
-use Rattle.ground.specs.Answer.{value, outcome, of_done}
+use Rattle.ground.specs.Answer.{value, outcome, of_result}
 use Rattle.ground.specs.Fixes.{Allows}
 use Rattle.ground.specs.Lists.{at}
 use Rattle.ground.proofs.Bools.{T_eq}
@@ -57,10 +57,10 @@ starts-all-E κs a x e p = p
 pub set_row_leaves : Allows 3 set_row.ps set_row.r set_row_says.Post (λ κs a x e. outcome e.1.1.1.1.1.0.now x ≡ row_asked a.0 a.1.0 a.1.1.0.now a.1.1.1.0.now a.1.1.1.1.0)
 set_row_leaves κs a x e p = p
 
-pub start_list_leaves : Allows 1 start_list.ps start_list.r start_list_says.Post (λ κs a x e. outcome (of_done x) e.0.now ≡ start_asked a.0.now)
+pub start_list_leaves : Allows 1 start_list.ps start_list.r start_list_says.Post (λ κs a x e. outcome (of_result x) e.0.now ≡ start_asked a.0.now)
 start_list_leaves κs a x e p = p
 
-pub set_in_list_leaves : Allows 3 set_in_list.ps set_in_list.r set_in_list_says.Post (λ κs a x e. outcome (of_done x) e.1.1.1.1.0.now ≡ list_asked a.0 a.1.0 a.1.1.0.now a.1.1.1.0.now a.1.1.1.1.0.now)
+pub set_in_list_leaves : Allows 3 set_in_list.ps set_in_list.r set_in_list_says.Post (λ κs a x e. outcome (of_result x) e.1.1.1.1.0.now ≡ list_asked a.0 a.1.0 a.1.1.0.now a.1.1.1.0.now a.1.1.1.1.0.now)
 set_in_list_leaves κs a x e p = p
 
 -- and so what C gets

@@ -2,12 +2,15 @@
 use Prim.Native.Nat.{ℕ, zero, suc}
 use mathlib.Core.Path.{◌≡◌, refl, sym, ap, ◌∙◌}
 use native.Mathlib.Omega.{arith}
-use mathlib.Core.List.{[], ◌∷◌}
+use mathlib.Core.List.{List, [], ◌∷◌, ◌++◌}
+use lib.Dec.{T}
 use lib.ListN.{get_or}
 use Rattle.std.specs.Prelude.{Result, Ok, Err}
 use Rattle.std.specs.Result.{IsErrAnd}
 use Rattle.std.proofs.lemmas.Result.{err_from_is_err_and}
 use Rattle.ground.specs.Refusal.{number}
+use Rattle.ground.specs.Checks.{Check, verdict}
+use Rattle.ground.proofs.Verdicts.{proper, rest_decides, still_refused}
 use Rattle.ground.specs.Answer.{Answer, value, refused, answer, Outcome, outcome, after, outcome_by, refusal_of, of_result}
 use Rattle.ground.specs.declared.refusal.Refusal.{Refusal}
 use Rattle.ground.specs.declared.refusal.Refusal.TheVariants.{Cards, Rounds, Sender, Own, Long, Value, Status, Path, Size, Mark, Version, Old, Ahead, Form, Foreign, Exception}
@@ -128,3 +131,14 @@ pub leaves_outcome : {L : Type 0} (x : Result (Unit {0}) Refusal) (r : Refusal) 
 leaves_outcome {L} x r left e before made =
     let z : x ≡ Err r = is_err x r left e in
     ap (λ (x : Result (Unit {0}) Refusal). outcome (of_result x) before) z ∙ outcome-refused e (numbered r) before made
+
+-- ---- checks one after the other, each left by a `?`
+
+module _ (cs ds : List Check) (p : T (proper cs)) where
+  -- refused by the first
+  pub refused-first : (r : Refusal) → number r ≡ verdict cs → number r ≡ verdict (cs ++ ds)
+  refused-first r e = still_refused cs ds p e (numbered r)
+
+  -- none by the first: the second decides
+  pub then-decided : 0 ≡ verdict cs → {v : ℕ} → v ≡ verdict ds → v ≡ verdict (cs ++ ds)
+  then-decided z e = e ∙ sym (rest_decides cs ds p (sym z))

@@ -9,10 +9,10 @@ use lib.ListN.{length, set, replicate}
 use borrow.Author.Tests.{eq-eqb, ne_eqb}
 use Rattle.ground.specs.Refusal as refusal
 use Rattle.ground.specs.Checks.{check, verdict, next}
-use Rattle.ground.specs.Answer.{Answer, answer, Outcome, outcome, after, outcome_by, of_done}
+use Rattle.ground.specs.Answer.{Answer, answer, Outcome, outcome, after, outcome_by, of_result}
 use Rattle.ground.specs.Lists.{table, with_part}
-use Rattle.ground.specs.declared.Done.{Done}
-use Rattle.ground.specs.declared.Done.TheVariants as done
+use Rattle.std.specs.Prelude.{Result, Ok, Err}
+use Rattle.ground.specs.declared.refusal.Refusal.{Refusal}
 use Rattle.ground.proofs.Answers.{value-verdict, refused-verdict, outcome-refused, outcome_done, refused-leaves}
 use Rattle.ground.proofs.Verdicts.{joined}
 use Rattle.words.specs.Word.{E}
@@ -68,8 +68,8 @@ module _ (turn : Turn) (x : ℤ) (statuses : List ℕ) (words : List ℤ) where
 
   -- ---- the row made: what `bench::all_answers` yields, and leaves in ten E, by its answer d
 
-  module _ (d : Done) {row : List ℤ} {y : ℤ} (told : outcome (of_done d) row ≡ answers_asked turn y statuses words (replicate 10 E)) (same : y ≡ x) where
-    says : outcome (of_done d) row ≡ answers_asked turn x statuses words (replicate 10 E)
+  module _ (d : (Result (Unit {0}) Refusal)) {row : List ℤ} {y : ℤ} (told : outcome (of_result d) row ≡ answers_asked turn y statuses words (replicate 10 E)) (same : y ≡ x) where
+    says : outcome (of_result d) row ≡ answers_asked turn x statuses words (replicate 10 E)
     says = told ∙ ap (λ (x : ℤ). answers_asked turn x statuses words (replicate 10 E)) same
 
     left_is : row ≡ after row_verdict (replicate 10 E) (row_for turn x statuses words)
@@ -80,7 +80,7 @@ module _ (turn : Turn) (x : ℤ) (statuses : List ℕ) (words : List ℤ) where
         ∙ ap (λ (v : ℕ). after v (replicate 10 E) (answers_of (rule_of turn.rack) X (replicate 10 E))) (right-long refl)
         ∙ ap (after row_verdict (replicate 10 E)) (row_is (rule_of turn.rack) X)
 
-    yields : answer row_verdict tt ≡ of_done d
+    yields : answer row_verdict tt ≡ of_result d
     unfolding answers_asked outcome_by
     yields = ap (λ (v : ℕ). answer v tt) (sym (right-long refl)) ∙ sym (ap (λ (o : Outcome (Answer (Unit {0})) (List ℤ)). o.yields) says)
 
@@ -88,11 +88,11 @@ module _ (turn : Turn) (x : ℤ) (statuses : List ℕ) (words : List ℤ) where
     unfolding row_made
     made_by e = ap (λ (k : ℕ). outcome k row) (sym e) ∙ ap (outcome row_verdict) left_is
 
-    pub made_refused : {k : ℕ} → d ≡ done.Refused k → outcome k row ≡ row_made turn x statuses words
-    made_refused e = made_by (refused-verdict tt row_verdict (yields ∙ ap of_done e)).0
+    pub made_refused : {k : ℕ} → d ≡ Err k → outcome k row ≡ row_made turn x statuses words
+    made_refused e = made_by (refused-verdict tt row_verdict (yields ∙ ap of_result e)).0
 
-    pub made_done : d ≡ done.Done → outcome 0 row ≡ row_made turn x statuses words
-    made_done e = made_by (value-verdict tt row_verdict (yields ∙ ap of_done e)).0
+    pub made_done : d ≡ (Ok tt) → outcome 0 row ≡ row_made turn x statuses words
+    made_done e = made_by (value-verdict tt row_verdict (yields ∙ ap of_result e)).0
 
   -- ---- the row set
 
@@ -125,26 +125,26 @@ module _ (turn : Turn) (x : ℤ) (statuses : List ℕ) (words : List ℤ) where
       list_number : r ≡ verdict (list_checks turn x statuses words list)
       list_number = number ∙ sym (right-long (eq-eqb (length list) outcome_words long))
 
-      pub list_refused : (r ≡ 0 → ⊥) → outcome (of_done (done.Refused r)) list ≡ list_asked turn x statuses words list
+      pub list_refused : (r ≡ 0 → ⊥) → outcome (of_result (Err r)) list ≡ list_asked turn x statuses words list
       unfolding list_asked
       list_refused n = outcome-refused list_number n _ _
 
-      pub list_set : r ≡ 0 → {left : List ℤ} → left ≡ with_part 10 turn.t list row → outcome (of_done done.Done) left ≡ list_asked turn x statuses words list
+      pub list_set : r ≡ 0 → {left : List ℤ} → left ≡ with_part 10 turn.t list row → outcome (of_result (Ok tt)) left ≡ list_asked turn x statuses words list
       unfolding list_asked
       list_set z h = outcome_done list_number z _ (h ∙ ap (with_part 10 turn.t list) (row-made z))
 
   -- a list of another length
-  pub list_wrong : (list : List ℤ) → (length list ≡ outcome_words → ⊥) → {k r : ℕ} → k ≡ verdict (turn_checks turn) → r ≡ next k refusal.long → outcome (of_done (done.Refused r)) list ≡ list_asked turn x statuses words list
+  pub list_wrong : (list : List ℤ) → (length list ≡ outcome_words → ⊥) → {k r : ℕ} → k ≡ verdict (turn_checks turn) → r ≡ next k refusal.long → outcome (of_result (Err r)) list ≡ list_asked turn x statuses words list
   unfolding list_asked
   list_wrong list n {k} t h = outcome-refused (wrong_long (ne_eqb (length list) outcome_words n) t h) (some_number k h) _ _
 
 -- ---- all E in a list
 
 module _ (list : List ℤ) where
-  pub start_wrong : (length list ≡ outcome_words → ⊥) → outcome (of_done (done.Refused refusal.long)) list ≡ start_asked list
+  pub start_wrong : (length list ≡ outcome_words → ⊥) → outcome (of_result (Err refusal.long)) list ≡ start_asked list
   unfolding start_asked verdict
   start_wrong n = outcome-refused (ap (λ (b : Bool). verdict (check refusal.long (not b) ∷ [])) (sym (ne_eqb (length list) outcome_words n))) (λ z. omega arith) _ _
 
-  pub start_done : length list ≡ outcome_words → {left : List ℤ} → left ≡ replicate outcome_words E → outcome (of_done done.Done) left ≡ start_asked list
+  pub start_done : length list ≡ outcome_words → {left : List ℤ} → left ≡ replicate outcome_words E → outcome (of_result (Ok tt)) left ≡ start_asked list
   unfolding start_asked verdict
   start_done long h = outcome_done (ap (λ (b : Bool). verdict (check refusal.long (not b) ∷ [])) (sym (eq-eqb (length list) outcome_words long))) refl _ h

@@ -5,7 +5,8 @@ use mathlib.Core.List.{List}
 use lib.IntN.{ℤ}
 use Rattle.ground.specs.Answer.{Outcome, outcome}
 use Rattle.ground.specs.Fixes.{Fixes}
-use Rattle.ground.specs.declared.Done.{Done}
+use Rattle.std.specs.Prelude.{Result}
+use Rattle.ground.specs.declared.refusal.Refusal.{Refusal}
 use Rattle.ground.proofs.Answers.{outcome_apart}
 use Rattle.outcomes.proofs.start.Kinds as start
 use Rattle.outcomes.proofs.start.Reads as start_says
@@ -22,8 +23,8 @@ start_fixed κs a x y s t p q = p ∙ sym q
 pub set_row_fixed : Fixes 3 set_row.ps set_row.r set_row_says.Post (Outcome ℕ (List (List ℤ))) (λ κs x s. outcome s.1.1.1.1.1.0.now x)
 set_row_fixed κs a x y s t p q = p ∙ sym q
 
-pub start_list_fixed : Fixes 1 start_list.ps start_list.r start_list_says.Post (Outcome Done (List ℤ)) (λ κs x s. outcome x s.0.now)
+pub start_list_fixed : Fixes 1 start_list.ps start_list.r start_list_says.Post (Outcome (Result (Unit {0}) Refusal) (List ℤ)) (λ κs x s. outcome x s.0.now)
 start_list_fixed κs a x y s t p q = outcome_apart x y (p ∙ sym q)
 
-pub set_in_list_fixed : Fixes 3 set_in_list.ps set_in_list.r set_in_list_says.Post (Outcome Done (List ℤ)) (λ κs x s. outcome x s.1.1.1.1.0.now)
+pub set_in_list_fixed : Fixes 3 set_in_list.ps set_in_list.r set_in_list_says.Post (Outcome (Result (Unit {0}) Refusal) (List ℤ)) (λ κs x s. outcome x s.1.1.1.1.0.now)
 set_in_list_fixed κs a x y s t p q = outcome_apart x y (p ∙ sym q)

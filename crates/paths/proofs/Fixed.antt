@@ -1,16 +1,13 @@
 -- Each public function's contract fixes its answer, and what the lent cards are afterwards: two outcomes that it allows are equal.
 use Prim.Native.Nat.{ℕ}
-use mathlib.Core.Path.{◌≡◌, sym, ap, ◌∙◌}
+use mathlib.Core.Path.{sym, ◌∙◌}
 use mathlib.Core.Bool.{Bool}
 use mathlib.Core.List.{List}
-use native.Mathlib.Omega.{arith}
 use Rattle.ground.specs.Answer.{Outcome, outcome}
 use Rattle.ground.specs.Fixes.{Fixes}
-use Rattle.paths.specs.Asked.{of_place, of_liveness}
-use Rattle.paths.specs.declared.Place.{Place}
-use Rattle.paths.specs.declared.Place.TheVariants as place
-use Rattle.paths.specs.declared.Liveness.{Liveness}
-use Rattle.paths.specs.declared.Liveness.TheVariants as liveness
+use Rattle.std.specs.Prelude.{Result}
+use Rattle.ground.specs.declared.refusal.Refusal.{Refusal}
+use Rattle.ground.proofs.Answers.{result_apart}
 use Rattle.paths.proofs.slot_of.Kinds as slot_of
 use Rattle.paths.proofs.slot_of.Reads as slot_of_says
 use Rattle.paths.proofs.slot_above.Kinds as slot_above
@@ -30,23 +27,11 @@ use Rattle.paths.proofs.live_in.Reads as live_in_says
 use Rattle.paths.proofs.is_live.Kinds as is_live
 use Rattle.paths.proofs.is_live.Reads as is_live_says
 
-place_apart : (x y : Place) → of_place x ≡ of_place y → x ≡ y
-place_apart (place.Slot a) (place.Slot b) e = ap place.Slot (cc e)
-place_apart (place.Slot a) (place.Refused k) e = let z : ◌≡◌ {A = ℕ} 0 1 = cc e in absurd (omega arith)
-place_apart (place.Refused k) (place.Slot a) e = let z : ◌≡◌ {A = ℕ} 0 1 = cc e in absurd (omega arith)
-place_apart (place.Refused k) (place.Refused j) e = ap place.Refused (cc e)
+pub slot_of_fixed : Fixes 0 slot_of.ps slot_of.r slot_of_says.Post (Result ℕ Refusal) (λ κs x s. x)
+slot_of_fixed κs a x y s t p q = result_apart x y (p ∙ sym q)
 
-liveness_apart : (x y : Liveness) → of_liveness x ≡ of_liveness y → x ≡ y
-liveness_apart (liveness.Live a) (liveness.Live b) e = ap liveness.Live (cc e)
-liveness_apart (liveness.Live a) (liveness.Refused k) e = let z : ◌≡◌ {A = ℕ} 0 1 = cc e in absurd (omega arith)
-liveness_apart (liveness.Refused k) (liveness.Live a) e = let z : ◌≡◌ {A = ℕ} 0 1 = cc e in absurd (omega arith)
-liveness_apart (liveness.Refused k) (liveness.Refused j) e = ap liveness.Refused (cc e)
-
-pub slot_of_fixed : Fixes 0 slot_of.ps slot_of.r slot_of_says.Post Place (λ κs x s. x)
-slot_of_fixed κs a x y s t p q = place_apart x y (p ∙ sym q)
-
-pub slot_above_fixed : Fixes 0 slot_above.ps slot_above.r slot_above_says.Post Place (λ κs x s. x)
-slot_above_fixed κs a x y s t p q = place_apart x y (p ∙ sym q)
+pub slot_above_fixed : Fixes 0 slot_above.ps slot_above.r slot_above_says.Post (Result ℕ Refusal) (λ κs x s. x)
+slot_above_fixed κs a x y s t p q = result_apart x y (p ∙ sym q)
 
 pub above_fixed : Fixes 0 above.ps above.r above_says.Post ℕ (λ κs x s. x)
 above_fixed κs a x y s t p q = p ∙ sym q
@@ -66,5 +51,5 @@ may_relay_fixed κs a x y s t p q = p ∙ sym q
 pub live_in_fixed : Fixes 1 live_in.ps live_in.r live_in_says.Post (Outcome Bool (List Bool)) (λ κs x s. outcome x s.1.0.now)
 live_in_fixed κs a x y s t p q = p ∙ sym q
 
-pub is_live_fixed : Fixes 0 is_live.ps is_live.r is_live_says.Post Liveness (λ κs x s. x)
-is_live_fixed κs a x y s t p q = liveness_apart x y (p ∙ sym q)
+pub is_live_fixed : Fixes 0 is_live.ps is_live.r is_live_says.Post (Result Bool Refusal) (λ κs x s. x)
+is_live_fixed κs a x y s t p q = result_apart x y (p ∙ sym q)

@@ -1,13 +1,13 @@
 -- Each public function's contract fixes its answer: two answers that it allows are equal.
 use Prim.Native.Nat.{ℕ}
-use mathlib.Core.Path.{◌≡◌, sym, ap, ◌∙◌}
+use mathlib.Core.Path.{sym, ◌∙◌}
 use mathlib.Core.Bool.{Bool}
 use mathlib.Core.List.{List}
-use native.Mathlib.Omega.{arith}
 use Rattle.ground.specs.Fixes.{Fixes}
-use Rattle.settings.specs.Asked.{of_checked}
-use Rattle.settings.specs.declared.Checked.{Checked}
-use Rattle.settings.specs.declared.Checked.TheVariants as checked
+use Rattle.std.specs.Prelude.{Result}
+use Rattle.settings.specs.declared.Settings.{Settings}
+use Rattle.ground.specs.declared.refusal.Refusal.{Refusal}
+use Rattle.ground.proofs.Answers.{refusal_apart, result_apart}
 use Rattle.settings.proofs.Settings.new.Kinds as new
 use Rattle.settings.proofs.Settings.new.Reads as new_says
 use Rattle.settings.proofs.cards.Kinds as cards
@@ -23,14 +23,8 @@ use Rattle.settings.proofs.turn_refused.Reads as turn_refused_says
 use Rattle.settings.proofs.settings_refused.Kinds as settings_refused
 use Rattle.settings.proofs.settings_refused.Reads as settings_refused_says
 
-checked_apart : (x y : Checked) → of_checked x ≡ of_checked y → x ≡ y
-checked_apart (checked.Good s) (checked.Good u) e = ap checked.Good (cc e)
-checked_apart (checked.Good s) (checked.Refused k) e = let z : ◌≡◌ {A = ℕ} 0 1 = cc e in absurd (omega arith)
-checked_apart (checked.Refused k) (checked.Good s) e = let z : ◌≡◌ {A = ℕ} 0 1 = cc e in absurd (omega arith)
-checked_apart (checked.Refused k) (checked.Refused j) e = ap checked.Refused (cc e)
-
-pub new_fixed : Fixes 0 new.ps new.r new_says.Post Checked (λ κs x s. x)
-new_fixed κs a x y s t p q = checked_apart x y (p ∙ sym q)
+pub new_fixed : Fixes 0 new.ps new.r new_says.Post (Result Settings Refusal) (λ κs x s. x)
+new_fixed κs a x y s t p q = result_apart x y (p ∙ sym q)
 
 pub cards_fixed : Fixes 0 cards.ps cards.r cards_says.Post ℕ (λ κs x s. x)
 cards_fixed κs a x y s t p q = p ∙ sym q
@@ -41,11 +35,11 @@ fits_fixed κs a x y s t p q = p ∙ sym q
 pub fitted_fixed : Fixes 0 fitted.ps fitted.r fitted_says.Post (List Bool) (λ κs x s. x)
 fitted_fixed κs a x y s t p q = p ∙ sym q
 
-pub rack_refused_fixed : Fixes 0 rack_refused.ps rack_refused.r rack_refused_says.Post ℕ (λ κs x s. x)
-rack_refused_fixed κs a x y s t p q = p ∙ sym q
+pub rack_refused_fixed : Fixes 0 rack_refused.ps rack_refused.r rack_refused_says.Post (Result (Unit {0}) Refusal) (λ κs x s. x)
+rack_refused_fixed κs a x y s t p q = refusal_apart x y (p ∙ sym q)
 
-pub turn_refused_fixed : Fixes 0 turn_refused.ps turn_refused.r turn_refused_says.Post ℕ (λ κs x s. x)
-turn_refused_fixed κs a x y s t p q = p ∙ sym q
+pub turn_refused_fixed : Fixes 0 turn_refused.ps turn_refused.r turn_refused_says.Post (Result (Unit {0}) Refusal) (λ κs x s. x)
+turn_refused_fixed κs a x y s t p q = refusal_apart x y (p ∙ sym q)
 
-pub settings_refused_fixed : Fixes 0 settings_refused.ps settings_refused.r settings_refused_says.Post ℕ (λ κs x s. x)
-settings_refused_fixed κs a x y s t p q = p ∙ sym q
+pub settings_refused_fixed : Fixes 0 settings_refused.ps settings_refused.r settings_refused_says.Post (Result (Unit {0}) Refusal) (λ κs x s. x)
+settings_refused_fixed κs a x y s t p q = refusal_apart x y (p ∙ sym q)

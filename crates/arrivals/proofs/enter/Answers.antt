@@ -12,7 +12,7 @@ use Rattle.entering.specs.declared.Entry.{Entry}
 use Rattle.entering.specs.Asked.{enter_asked}
 use Rattle.frames.specs.Frame.{frame_of}
 use Rattle.frames.specs.Asked.{read_checks}
-use Rattle.arrivals.specs.Entry.{of_carried, entry_asked, frame_asked}
+use Rattle.arrivals.specs.Entry.{of_result, entry_asked, frame_asked}
 use Rattle.arrivals.proofs.Entering.{unread_refused, carried_enters, carried_refused}
 use Rattle.arrivals.proofs.enter.Goals as goal
 use Rattle.arrivals.proofs.enter.Goals.{After-entry_of, Else-unread-ne0}
@@ -33,7 +33,7 @@ reads : (c : Else-unread-ne0) → verdict (read_checks c.args.bytes.now) ≡ 0
 reads c = sym c.refused-unread.ensures ∙ c.if-unread-ne0.false
 
 -- what their record carries
-carries : (c : After-entry_of) → let a = c.args in of_carried c.entry_of.result ≡ entry_asked a.s a.current (frame_of a.bytes.now)
+carries : (c : After-entry_of) → let a = c.args in of_result c.entry_of.result ≡ entry_asked a.s a.current (frame_of a.bytes.now)
 carries c = let a = c.args in c.entry_of.ensures ∙ ap (entry_asked a.s a.current) c.frame_of.ensures
 
 pub returns-in-Entry : goal.returns-in-Entry
@@ -41,7 +41,7 @@ unfolding frame_asked
 returns-in-Entry c =
     let a = c.args in
     let b = book_of a.words.now a.votes.now in
-    carried_enters (book_checks a.s b) tt a.s a.current a.bytes.now b (made a.s b) (reads (goal.at.returns-in-Entry c).Else-unread-ne0) (sym (ap of_carried c.in-Entry.is) ∙ carries (goal.at.returns-in-Entry c).After-entry_of)
+    carried_enters (book_checks a.s b) tt a.s a.current a.bytes.now b (made a.s b) (reads (goal.at.returns-in-Entry c).Else-unread-ne0) (sym (ap of_result c.in-Entry.is) ∙ carries (goal.at.returns-in-Entry c).After-entry_of)
     (c.enter.ensures ∙ ap (enter_asked a.s b _) (back_is (sfits_of c.in-Entry.known_told-1-own.given.1.0.1)))
 
 pub returns-in-Refused : goal.returns-in-Refused
@@ -49,4 +49,4 @@ unfolding frame_asked
 returns-in-Refused c =
     let a = c.args in
     let b = book_of a.words.now a.votes.now in
-    carried_refused (book_checks a.s b) tt a.s a.current a.bytes.now b (made a.s b) (reads (goal.at.returns-in-Refused c).Else-unread-ne0) (sym (ap of_carried c.in-Refused.is) ∙ carries (goal.at.returns-in-Refused c).After-entry_of) c.refuse-in-Refused.ensures
+    carried_refused (book_checks a.s b) tt a.s a.current a.bytes.now b (made a.s b) (reads (goal.at.returns-in-Refused c).Else-unread-ne0) (sym (ap of_result c.in-Refused.is) ∙ carries (goal.at.returns-in-Refused c).After-entry_of) c.refuse-in-Refused.ensures

@@ -11,7 +11,7 @@ use Rattle.entering.specs.Entered.{entered}
 use Rattle.entering.specs.declared.Entry.{Entry}
 use Rattle.frames.specs.Frame.{frame_of}
 use Rattle.frames.specs.Asked.{read_checks}
-use Rattle.arrivals.specs.Entry.{of_carried, entry_asked}
+use Rattle.arrivals.specs.Entry.{of_result, entry_asked}
 use Rattle.arrivals.proofs.Entering.{unread_refused, carried_enters, carried_refused}
 use Rattle.books.specs.Books.{book_from, with_book, books_checks}
 use Rattle.books.specs.Asked.{books_enter_asked, books_frame_asked}
@@ -34,7 +34,7 @@ reads : (c : Else-unread-ne0) → verdict (read_checks c.args.bytes.now) ≡ 0
 reads c = sym c.refused-unread.ensures ∙ c.if-unread-ne0.false
 
 -- what their record carries
-carries : (c : After-entry_of) → let a = c.args in of_carried c.entry_of.result ≡ entry_asked a.s a.current (frame_of a.bytes.now)
+carries : (c : After-entry_of) → let a = c.args in of_result c.entry_of.result ≡ entry_asked a.s a.current (frame_of a.bytes.now)
 carries c = let a = c.args in c.entry_of.ensures ∙ ap (entry_asked a.s a.current) c.frame_of.ensures
 
 pub returns-in-Entry : goal.returns-in-Entry
@@ -42,7 +42,7 @@ unfolding books_enter_asked books_frame_asked
 returns-in-Entry c =
     let a = c.args in
     let l = a.books.now in
-    carried_enters (books_checks a.s l) tt a.s a.current a.bytes.now l (made a.s l) (reads (goal.at.returns-in-Entry c).Else-unread-ne0) (sym (ap of_carried c.in-Entry.is) ∙ carries (goal.at.returns-in-Entry c).After-entry_of)
+    carried_enters (books_checks a.s l) tt a.s a.current a.bytes.now l (made a.s l) (reads (goal.at.returns-in-Entry c).Else-unread-ne0) (sym (ap of_result c.in-Entry.is) ∙ carries (goal.at.returns-in-Entry c).After-entry_of)
     (c.enter.ensures ∙ ap (books_enter_asked a.s l _) (back_is (sfits_of c.in-Entry.known_told-1-own.given.1.0.1)))
 
 pub returns-in-Refused : goal.returns-in-Refused
@@ -50,4 +50,4 @@ unfolding books_frame_asked
 returns-in-Refused c =
     let a = c.args in
     let l = a.books.now in
-    carried_refused (books_checks a.s l) tt a.s a.current a.bytes.now l (made a.s l) (reads (goal.at.returns-in-Refused c).Else-unread-ne0) (sym (ap of_carried c.in-Refused.is) ∙ carries (goal.at.returns-in-Refused c).After-entry_of) c.refuse-in-Refused.ensures
+    carried_refused (books_checks a.s l) tt a.s a.current a.bytes.now l (made a.s l) (reads (goal.at.returns-in-Refused c).Else-unread-ne0) (sym (ap of_result c.in-Refused.is) ∙ carries (goal.at.returns-in-Refused c).After-entry_of) c.refuse-in-Refused.ensures

@@ -1,7 +1,7 @@
 -- `trials::put_listed` meets its contract: each answer stores the card lines and then its own, and a file that is not refused has one.
 use mathlib.Core.Path.{sym, ap, ◌∙◌}
 use native.Mathlib.Omega.{arith}
-use Rattle.bound.specs.Bound.{of_bounded}
+use Rattle.bound.specs.Bound.{of_result}
 use Rattle.files.proofs.Good.{file_good}
 use Rattle.trials.specs.Listing.{bound_line}
 use Rattle.trials.proofs.Asking.{bound_is, bound_given}
@@ -16,14 +16,14 @@ slice_bounds-bound-end c =
 pub returns-in-Held : goal.returns-in-Held
 unfolding bound_line
 returns-in-Held c =
-    renamed (listed_as c.args.file.now (bound_is c.args.file.now c.requires.0 (sym (ap of_bounded c.in-Held.is) ∙ c.bound.ensures))) c.put_cards.ensures
+    renamed (listed_as c.args.file.now (bound_is c.args.file.now c.requires.0 (sym (ap of_result c.in-Held.is) ∙ c.bound.ensures))) c.put_cards.ensures
 
 pub returns-in-NotHeld : goal.returns-in-NotHeld
 unfolding bound_line
 returns-in-NotHeld c =
-    renamed (listed_as c.args.file.now (bound_is c.args.file.now c.requires.0 (sym (ap of_bounded c.in-NotHeld.is) ∙ c.bound.ensures))) c.put_cards-in-NotHeld.ensures
+    renamed (listed_as c.args.file.now (bound_is c.args.file.now c.requires.0 (sym (ap of_result c.in-NotHeld.is) ∙ c.bound.ensures))) c.put_cards-in-NotHeld.ensures
 
 -- it cannot be refused
 pub returns-in-Refused : goal.returns-in-Refused
 returns-in-Refused c =
-    absurd (bound_given c.args.file.now c.requires.0 (sym (ap of_bounded c.in-Refused.is) ∙ c.bound.ensures))
+    absurd (bound_given c.args.file.now c.requires.0 (sym (ap of_result c.in-Refused.is) ∙ c.bound.ensures))

@@ -1,10 +1,10 @@
 -- `Settings::new` meets its contract: the verdict decides.
 use mathlib.Core.Path.{refl}
-use Rattle.ground.proofs.Answers.{answer-refused, answer-given}
+use Rattle.ground.proofs.Answers.{leaves_answer, answer-given}
 use Rattle.settings.proofs.Settings.new.Goals as goal
 
-pub returns-then-no-ne0 : goal.returns-then-no-ne0
-returns-then-no-ne0 c = answer-refused c.settings_refused-no.ensures c.if-no-ne0.true _
+pub returns-in_err-settings_refused : goal.returns-in_err-settings_refused
+returns-in_err-settings_refused c = leaves_answer _ _ c.from_residual.ensures.1 c.in_err-settings_refused.ensures _
 
 pub returns : goal.returns
-returns c = answer-given c.settings_refused-no.ensures c.if-no-ne0.false refl
+returns c = answer-given c.in_ok-settings_refused.ensures refl refl
