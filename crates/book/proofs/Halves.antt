@@ -1,16 +1,16 @@
 -- Laws of a book in one list: its two halves.
-use Prim.Native.Nat.{ℕ, zero, suc, ◌+◌, ◌≤◌}
+use Prim.Native.Nat.{ℕ, ◌+◌, ◌≤◌, min}
 use mathlib.Core.Path.{◌≡◌, refl, sym, ap, ap₂, ◌∙◌}
 use mathlib.Core.Bool.{Bool, true, false, not}
-use mathlib.Core.List.{List, ◌∷◌, ◌++◌, append-nil}
+use mathlib.Core.List.{List, [], ◌++◌, append-nil}
 use native.Mathlib.Omega.{arith}
 use native.Mathlib.Decide.{ℕ_discrete}
-use native.Mathlib.Nat.{zero-add, suc-add}
-use lib.Dec.{eqb}
+use lib.Dec.{eqb, leb, leb→le}
 use lib.IntN.{ℤ}
-use lib.ListN.{length, replicate, take, drop, take-append-drop, drop_of_length-le, length-drop, length-append, length-replicate}
+use lib.ListN.{length, take, drop, take-append-drop, drop_of_length-le, length-drop, length-append}
 use lib.Seq.{length-take-le, take_all, take_at, drop_at}
-use borrow.Author.Tests.{eq-eqb, ne_eqb}
+use borrow.Author.Tests.{eq-eqb, ne_eqb, leb-false}
+use Rattle.std.proofs.lemmas.List.{take_min, drop_min, nil_from_length}
 use Rattle.ground.specs.Answer.{Outcome, outcome, of_result}
 use Rattle.std.specs.Prelude.{Result}
 use Rattle.ground.specs.declared.refusal.Refusal.{Refusal}
@@ -53,27 +53,30 @@ halves_long l = go (ℕ_discrete (length l) 2222) (sized (halves l)) refl
     go (no n) true q = absurd (n (sized-halves l (sized_both (halves l) (ap not q))))
     go (no n) false q = rw (ne_eqb (length l) 2222 n, q)
 
--- a word everywhere is that word everywhere in both halves
-pub halves-same : (n : ℕ) (w : ℤ) → n ≡ 2222 → halves (replicate n w) ≡ book_of (replicate slots w) (replicate slots w)
-halves-same n w e =
-    let both : n ≡ slots + slots = omega arith in
-    ap (λ (i : ℕ). halves (replicate i w)) both ∙ ap halves (replicate_add slots slots) ∙ halves_joined (replicate slots w) (replicate slots w) (length-replicate slots w)
-  where
-    replicate_add : (a b : ℕ) → replicate (a + b) w ≡ replicate a w ++ replicate b w
-    replicate_add zero b = ap (λ (i : ℕ). replicate i w) (zero-add b)
-    replicate_add (suc a) b = ap (λ (i : ℕ). replicate i w) (suc-add a b) ∙ ap (λ (l : List ℤ). w ∷ l) (replicate_add a b)
+-- ---- the list split in its halves and lent on: the first `mid` places, all of them where there are fewer than a half has
 
--- ---- the second half lent on, as n places from the first's end, and back with other votes
+-- what it is split into, and what comes back, has as many places in each part
+pub record Split (l words votes left right : List ℤ) (mid : ℕ) : Type 0 where
+  pub half : mid ≡ min slots (length l)
+  pub front : words ≡ take mid l
+  pub back : votes ≡ drop mid l
+  pub left_long : length left ≡ mid
+  pub right_long : length right + mid ≡ length l
 
-module _ (l : List ℤ) (n : ℕ) (long : length l ≡ 2222) (e : n ≡ slots) where
-  all-votes : length (drop slots l) ≤ n
-  all-votes = omega (arith, length-drop slots l)
+module _ {l words votes left right : List ℤ} {mid : ℕ} (p : Split l words votes left right mid) where
+  joined : halves (left ++ right) ≡ book_of left right
+  joined = go (leb slots (length l)) refl
+    where
+      go : (b : Bool) → leb slots (length l) ≡ b → halves (left ++ right) ≡ book_of left right
+      go true q = halves_joined left right (p.left_long ∙ omega (arith, p.half, leb→le slots (length l) (rw q tt)))
+      go false q =
+          let small : length left ≤ slots = omega (arith, p.half, p.left_long) in
+          let none : right ≡ [] = nil_from_length right (omega (arith, p.half, p.right_long, leb-false slots (length l) q)) in
+          rw (none, append-nil) (ap₂ book_of (take_all slots left small) (drop_of_length-le left {i = slots} small))
 
-  pub votes_lent : take n (drop slots l) ≡ drop slots l
-  votes_lent = take_all n (drop slots l) all-votes
-
-  pub votes_back : (votes : List ℤ) → halves (take slots l ++ (votes ++ drop n (drop slots l))) ≡ book_of (take slots l) votes
-  votes_back votes =
-      ap (λ (rest : List ℤ). halves (take slots l ++ (votes ++ rest))) (drop_of_length-le (drop slots l) {i = n} all-votes)
-      ∙ ap (λ (rest : List ℤ). halves (take slots l ++ rest)) (append-nil votes)
-      ∙ halves_joined (take slots l) votes (length-take-le slots l (omega arith))
+  -- what a call on the two yields and leaves, it yields and leaves of the list
+  pub split_call : {Y : Type 0} {y : Y} (asked : Book → Outcome Y Book) → outcome y (book_of left right) ≡ asked (book_of words votes) → outcome y (halves (left ++ right)) ≡ asked (halves l)
+  split_call {y = y} asked told =
+      ap (outcome y) joined
+      ∙ told
+      ∙ ap asked (ap₂ book_of (p.front ∙ ap (λ (m : ℕ). take m l) p.half ∙ take_min slots l) (p.back ∙ ap (λ (m : ℕ). drop m l) p.half ∙ drop_min slots l))
