@@ -23,8 +23,9 @@ use Rattle.paths.proofs.Live.{live-slot, live-level, live_own, live-above, below
 use Rattle.paths.proofs.Members.{none-next}
 use Rattle.paths.proofs.Handed.{Handed, handed_table, left_other}
 use Rattle.vote.specs.Vote.{rule_of, decided}
+use Rattle.book.specs.Book.{book_of}
 use Rattle.entering.specs.Entered.{remade, remade_along}
-use Rattle.entering.specs.Remaking.{held_votes, member_remade, way_words, Remakes, Enters}
+use Rattle.entering.specs.Remaking.{held_votes, member_remade, Remakes, Enters}
 use Rattle.entering.proofs.Leaf.{left_inner, made_more, remade_handed}
 
 -- ---- one step up
@@ -66,51 +67,27 @@ left_above s k t p =
     let o : s.p ≡ s.t → ⊥ = λ q. omega (arith, live_own s k q t) in
     omega (arith, left_other s (level k) o, left_other s (level (above k)) o, level-above k d (live-slot s k t) e, live-level s k t)
 
--- ---- the words on the way
-
--- the slot that is i steps up from k
-abbrev up : ℕ → ℕ → ℕ
-up zero k = k
-up (suc i) k = above (up i k)
-
-way_at : (ws : List ℤ) (k i : ℕ) → i ≤ 3 → at (way_words ws k) i ≡ at ws (up i k)
-unfolding way_words
-way_at ws k zero h = refl
-way_at ws k (suc zero) h = refl
-way_at ws k (suc (suc zero)) h = refl
-way_at ws k (suc (suc (suc zero))) h = refl
-way_at ws k (suc (suc (suc (suc i)))) h = absurd (omega arith)
-
--- those of the first slots of a list are those of the list
-pub way_front : (n : ℕ) (l : List ℤ) (k : ℕ) → k < n → way_words (take n l) k ≡ way_words l k
-unfolding way_words
-way_front n l k h = rw (first k h, first (above k) (omega arith), first (above (above k)) (omega arith), first (above (above (above k))) (omega arith))
-  where
-    first : (j : ℕ) → j < n → at (take n l) j ≡ at l j
-    first j g = get_or-take n l j (pos 0) g
-
 -- ---- the walk
 
--- the walk from `slot`, with the words on its way, has come to k in i steps and re-made the vote there: what is handed on belongs to k, and what is left to re-make is the way above k
-pub record Climbs (s : Settings) (words votes₀ : List ℤ) (slot : ℕ) (votes : List ℤ) (members : List Bool) (d k i : ℕ) : Type 0 where
+-- the walk from `slot` has come to k and re-made the vote there: what is handed on belongs to k, and what is left to re-make is the way above k
+pub record Climbs (s : Settings) (words votes₀ : List ℤ) (slot : ℕ) (votes : List ℤ) (members : List Bool) (d k : ℕ) : Type 0 where
   pub few : s.rack.m ≤ 3
+  pub words_whole : length words ≡ slots
   pub votes_whole : length votes ≡ slots
   pub alive : T (live s k)
   pub cards : length members ≡ 10
   pub handed : Handed s members k
   pub deep : d ≡ level k
-  pub short : i + d ≤ 3
-  pub above_by : k ≡ up i slot
-  pub same : (all : List ℤ) → words ≡ way_words all slot → remade_along (rule_of s.rack) s all (drop 1 (way k)) votes ≡ remade_along (rule_of s.rack) s all (way slot) votes₀
+  pub same : remade_along (rule_of s.rack) s words (drop 1 (way k)) votes ≡ remade_along (rule_of s.rack) s words (way slot) votes₀
 
-module _ {s : Settings} {vs : List ℤ} {members : List Bool} {slot left d : ℕ} (a : Enters s vs members slot) (g : d ≡ level slot) (e : left ≡ rounds_left s d) where
+module _ {s : Settings} {ws vs : List ℤ} {members : List Bool} {slot left d : ℕ} (a : Enters s (book_of ws vs) members slot) (g : d ≡ level slot) (e : left ≡ rounds_left s d) where
   rounds : left ≡ rounds_left s (level slot)
   rounds = e ∙ ap (rounds_left s) g
 
   -- what the re-making at the entered slot is asked
   pub first_asks : Remakes vs members left d slot
   first_asks = record {
-    votes_whole = a.votes_whole;
+    votes_whole = a.whole.votes_long;
     cards = ap length a.here ∙ length-table 10 0 (lengthens s slot);
     deep = omega (arith, g, a.few, live-level s slot a.alive);
     slot = live-slot s slot a.alive;
@@ -118,28 +95,30 @@ module _ {s : Settings} {vs : List ℤ} {members : List Bool} {slot left d : ℕ
   }
 
   -- the walk begins with its vote, and with what the slot's path has
-  pub climb_first : {ws : List ℤ} {v w : ℤ} → v ≡ member_remade (rule_of s.rack) w vs members left d slot → w ≡ at ws 0 → Climbs s ws vs slot (set vs slot v) members d slot 0
+  pub climb_first : {v w : ℤ} → v ≡ member_remade (rule_of s.rack) w vs members left d slot → w ≡ at ws slot → Climbs s ws vs slot (set vs slot v) members d slot
   climb_first {v = v} made own = record {
     few = a.few;
-    votes_whole = length-set vs slot v ∙ a.votes_whole;
+    words_whole = a.whole.words_long;
+    votes_whole = length-set vs slot v ∙ a.whole.votes_long;
     alive = a.alive;
     cards = first_asks.cards;
     handed = handed;
     deep = g;
-    short = omega (arith, g, a.few, live-level s slot a.alive);
-    above_by = refl;
-    same = λ all f. along_step (rule_of s.rack) s all vs slot
+    same = along_step (rule_of s.rack) s ws vs slot
         (made
-        ∙ ap (λ (w : ℤ). member_remade (rule_of s.rack) w vs members left d slot) (own ∙ ap (λ (l : List ℤ). at l 0) f ∙ way_at all slot 0 (omega arith))
-        ∙ remade_handed (rule_of s.rack) s all vs members left d slot a.few a.alive handed rounds g);
+        ∙ ap (λ (w : ℤ). member_remade (rule_of s.rack) w vs members left d slot) own
+        ∙ remade_handed (rule_of s.rack) s ws vs members left d slot a.few a.alive handed rounds g);
   }
     where
       handed : Handed s members slot
       handed = rw a.here (handed_table s slot)
 
-module _ {s : Settings} {ws vs₀ : List ℤ} {slot : ℕ} {vs : List ℤ} {members : List Bool} {d k i : ℕ} (c : Climbs s ws vs₀ slot vs members d k i) where
+module _ {s : Settings} {ws vs₀ : List ℤ} {slot : ℕ} {vs : List ℤ} {members : List Bool} {d k : ℕ} (c : Climbs s ws vs₀ slot vs members d k) where
   pub climb_level : 0 < k → 0 < d
   climb_level p = let (e, f) = level_pos k (live-slot s k c.alive) p in omega (arith, c.deep)
+
+  pub climb_deep : d ≤ 3
+  climb_deep = omega (arith, c.few, c.deep, live-level s k c.alive)
 
   -- one step up: the vote there is decided from its word and the held votes
   module _ (p : 0 < k) {q j : ℕ} (last : q ≡ last_relay k) (next : j ≡ above k) where
@@ -156,35 +135,30 @@ module _ {s : Settings} {ws vs₀ : List ℤ} {slot : ℕ} {vs : List ℤ} {memb
     handed_up : Handed s members' (above k)
     handed_up = handed_above s members k c.cards c.alive p c.handed
 
-    above_up : above k ≡ up (i + 1) slot
-    above_up = ap above c.above_by ∙ ap (λ (j : ℕ). up j slot) (sym (add-one i))
-
     -- the vote there is the one made again
-    gives : {v own w : ℤ} → v ≡ decided (rule_of s.rack) own (held_votes (rule_of s.rack) vs members' (d - 1 + 1) (above k) 10) → own ≡ (rule_of s.rack).read (d - 1) w → w ≡ at ws (i + 1) → (all : List ℤ) → ws ≡ way_words all slot → v ≡ remade (rule_of s.rack) s all vs (above k)
-    gives {w = w} e read f all g =
+    gives : {v own w : ℤ} → v ≡ decided (rule_of s.rack) own (held_votes (rule_of s.rack) vs members' (d - 1 + 1) (above k) 10) → own ≡ (rule_of s.rack).read (d - 1) w → w ≡ at ws (above k) → v ≡ remade (rule_of s.rack) s ws vs (above k)
+    gives {w = w} e read f =
         let R = rule_of s.rack in
         let left = rounds_left s (level (above k)) in
-        let word = f ∙ ap (λ (l : List ℤ). at l (i + 1)) g ∙ way_at all slot (i + 1) (omega (arith, c.short, climb_level p)) ∙ ap (at all) (sym above_up) in
         e
         ∙ ap (λ (own : ℤ). decided R own (held_votes R vs members' (d - 1 + 1) (above k) 10)) read
         ∙ sym (made_more R w vs members' left (d - 1) (above k) (λ z. omega (arith, z, left_above s k c.alive p)))
-        ∙ ap (λ (w : ℤ). member_remade R w vs members' left (d - 1) (above k)) word
-        ∙ remade_handed R s all vs members' left (d - 1) (above k) c.few (up_live s k c.alive p) handed_up refl level_up
+        ∙ ap (λ (w : ℤ). member_remade R w vs members' left (d - 1) (above k)) f
+        ∙ remade_handed R s ws vs members' left (d - 1) (above k) c.few (up_live s k c.alive p) handed_up refl level_up
 
-    pub climb_more : {v own w : ℤ} → v ≡ decided (rule_of s.rack) own (held_votes (rule_of s.rack) vs (set members q true) (d - 1 + 1) j 10) → own ≡ (rule_of s.rack).read (d - 1) w → w ≡ at ws (i + 1) → Climbs s ws vs₀ slot (set vs j v) (set members q true) (d - 1) j (i + 1)
+    pub climb_more : {v own w : ℤ} → v ≡ decided (rule_of s.rack) own (held_votes (rule_of s.rack) vs (set members q true) (d - 1 + 1) j 10) → own ≡ (rule_of s.rack).read (d - 1) w → w ≡ at ws j → Climbs s ws vs₀ slot (set vs j v) (set members q true) (d - 1) j
     climb_more {v} e read f = rw (last, next) (record {
       few = c.few;
+      words_whole = c.words_whole;
       votes_whole = length-set vs (above k) v ∙ c.votes_whole;
       alive = up_live s k c.alive p;
       cards = length-set members (last_relay k) true ∙ c.cards;
       handed = handed_up;
       deep = level_up;
-      short = omega (arith, c.short, climb_level p);
-      above_by = above_up;
-      same = λ all g. along_step (rule_of s.rack) s all vs (above k) (gives (rw (last, next) at e) read f all g) ∙ ap (λ (l : List ℕ). remade_along (rule_of s.rack) s all (drop 1 l) vs) (sym (way_cons k (live-slot s k c.alive) p)) ∙ c.same all g;
+      same = along_step (rule_of s.rack) s ws vs (above k) (gives (rw (last, next) at e) read (rw next at f)) ∙ ap (λ (l : List ℕ). remade_along (rule_of s.rack) s ws (drop 1 l) vs) (sym (way_cons k (live-slot s k c.alive) p)) ∙ c.same;
     })
 
   -- at slot 0 nothing is left to re-make
-  pub climb_done : k ≤ 0 → (all : List ℤ) → ws ≡ way_words all slot → vs ≡ remade_along (rule_of s.rack) s all (way slot) vs₀
+  pub climb_done : k ≤ 0 → vs ≡ remade_along (rule_of s.rack) s ws (way slot) vs₀
   unfolding remade_along way_by level
-  climb_done h all g = let z : k ≡ 0 = omega arith in rw z at (c.same all g)
+  climb_done h = let z : k ≡ 0 = omega arith in rw z at c.same

@@ -1,15 +1,13 @@
 -- Re-making votes as the code does it: which cards may still relay is handed on.
 use Rattle.std.specs.Prelude.{ℕ, zero, suc, ◌+◌, ◌≤◌, ◌<◌, ◌≡◌, Bool, cond, List, [], ◌∷◌, T, ℤ, length}
-use Rattle.ground.specs.Refusal as refusal
-use Rattle.ground.specs.Checks.{next}
 use Rattle.ground.specs.Lists.{at, over}
 use Rattle.words.specs.Rule.{Rule}
 use Rattle.settings.specs.Settings.{slots}
 use Rattle.settings.specs.declared.Settings.{Settings}
-use Rattle.paths.specs.Slots.{above, below, way, live, members_of}
+use Rattle.paths.specs.Slots.{below, live, members_of}
 use Rattle.paths.specs.Walk.{may}
-use Rattle.vote.specs.Vote.{rule_of, decided}
-use Rattle.entering.specs.Entered.{remade_along}
+use Rattle.vote.specs.Vote.{decided}
+use Rattle.book.specs.Book.{Book, Sized}
 
 -- the held votes one relay longer than slot k by the first c cards that may relay, read at level d
 abbrev pub held_votes : Rule → List ℤ → List Bool → ℕ → ℕ → ℕ → List ℤ
@@ -20,10 +18,6 @@ unfoldable pub member_remade : Rule → ℤ → List ℤ → List Bool → ℕ �
 member_remade R word votes members zero d k = R.read d word
 member_remade R word votes members (suc r) d k = decided R (R.read d word) (held_votes R votes members (d + 1) k 10)
 
--- the words at slot k and at the three slots above it; above slot 0 is slot 0
-unfoldable pub way_words : List ℤ → ℕ → List ℤ
-way_words words k = at words k ∷ at words (above k) ∷ at words (above (above k)) ∷ at words (above (above (above k))) ∷ []
-
 -- what a re-making is asked: whole votes, all ten cards, at most three relays in all, and a slot with room for one relay more where rounds are left
 pub record Remakes (votes : List ℤ) (members : List Bool) (r d k : ℕ) : Type 0 where
   pub votes_whole : length votes ≡ slots
@@ -32,18 +26,9 @@ pub record Remakes (votes : List ℤ) (members : List Bool) (r d k : ℕ) : Type
   pub slot : k < slots
   pub inner : (r ≡ 0 → ⊥) → k < 111
 
--- what an entering is asked: at most three rounds, a live path with its members, and whole votes
-pub record Enters (s : Settings) (votes : List ℤ) (members : List Bool) (k : ℕ) : Type 0 where
+-- what an entering is asked: at most three rounds, a whole book, and a live path with its members
+pub record Enters (s : Settings) (b : Book) (members : List Bool) (k : ℕ) : Type 0 where
   pub few : s.rack.m ≤ 3
+  pub whole : Sized b
   pub alive : T (live s k)
-  pub votes_whole : length votes ≡ slots
   pub here : members ≡ members_of s k
-
--- the votes re-made on the way up from slot k, of whatever book has these words on it
-abbrev pub RemadeUp : Settings → ℕ → List ℤ → List ℤ → List ℤ → Type 0
-RemadeUp s k words before after = (all : List ℤ) → words ≡ way_words all k → after ≡ remade_along (rule_of s.rack) s all (way k) before
-
--- the verdict on an entering, given that on its book; where there is none, the cards that may lengthen the slot's path
-pub record Admits (s : Settings) (no k told : ℕ) (members : List Bool) : Type 0 where
-  pub verdict : told ≡ next no (cond (live s k) 0 refusal.path)
-  pub here : told ≡ 0 → members ≡ members_of s k

@@ -4,16 +4,16 @@
 
 ghost use Rattle.std.specs.Prelude.{◌≡◌, ◌<◌, length};
 ghost use Rattle.ground.specs.Answer.{outcome, of_result};
-ghost use Rattle.ground.specs.Lists.{table};
 ghost use Rattle.words.specs.Rule.{omh};
-ghost use Rattle.settings.specs.Settings.{most_cards, slots};
-ghost use Rattle.paths.specs.Slots.{may_relay};
-ghost use Rattle.vote.specs.Vote.{decided};
+ghost use Rattle.settings.specs.Settings.{slots};
+ghost use Rattle.paths.specs.Slots.{way};
+ghost use Rattle.vote.specs.Vote.{rule_of, decided};
 ghost use Rattle.book.specs.Book.{book_of, halves};
-ghost use Rattle.entering.specs.Entered.{holds, stored};
+ghost use Rattle.entering.specs.Entered.{holds, stored, remade_along};
 ghost use Rattle.entering.specs.Asked.{enter_asked};
-ghost use Rattle.entering.specs.Remaking.{held_votes, member_remade, way_words, Remakes, Enters, RemadeUp, Admits};
+ghost use Rattle.entering.specs.Remaking.{held_votes, member_remade, Remakes, Enters};
 
+use ground::refusal;
 use ground::refusal::Refusal;
 use settings::Settings;
 use vote::REPORTS;
@@ -28,9 +28,6 @@ pub struct Entry {
 
 // What stands where two different words came: a bad word, which reads as E.
 pub const CONTRADICTED: i32 = 1_000_000_009;
-
-// The most slots on a way up: one for each round of relay, and the sender's.
-const LEVELS: usize = Settings::MAX_ROUNDS + 1;
 
 // Decides the vote at slot k from its own reading and the held votes one relay longer, by each member and read at level d. A struck report is left out: the next takes its place.
 fn over_held(
@@ -76,29 +73,28 @@ fn remake(
     over_held(votes, members, own, d + 1, k)
 }
 
-// Re-makes the votes at a live slot and at each slot above it, slot 0 last, from the words there; `members` are the cards that may lengthen its path. On each step up the last relay may relay again, and a round is left.
+// Re-makes the votes at a live slot and at each slot above it, slot 0 last; `members` are the cards that may lengthen its path. On each step up the last relay may relay again, and a round is left.
 fn walk_up(
     s: Settings,
-    words: &[i32; LEVELS],
+    words: &[i32],
     votes: &mut [i32],
     members: &mut [bool; Settings::MAX_CARDS],
     slot: usize,
 )
-    requires { Enters s votes.old members.old slot }
-    ensures { RemadeUp s slot words.now votes.old votes.new }
+    requires { Enters s (book_of words.now votes.old) members.old slot }
+    ensures { votes.new ≡ remade_along (rule_of s.rack) s words.now (way slot) votes.old }
 {
     let mut d = paths::level_of(slot);
     let left = paths::rounds_left(s, d);
-    let first = remake(words[0], votes, members, left, d, slot);
+    let held = words[slot];
+    let first = remake(held, votes, members, left, d, slot);
     votes[slot] = first;
     let mut k = slot;
-    let mut i: usize = 0;
     while 0 < k {
         members[paths::last_relay(k)] = true;
         k = paths::above(k);
         d -= 1;
-        i += 1;
-        let own = words::read_at(d, words[i]);
+        let own = words::read_at(d, words[k]);
         let vote = over_held(votes, members, own, d + 1, k);
         votes[k] = vote;
     }
@@ -117,17 +113,12 @@ fn held_after(old: i32, new: i32) -> i32
     CONTRADICTED
 }
 
-// Stores a word at a slot. Yields a copy of the words there and at the three slots above it, above slot 0 its own again: all that the votes on the way up are made from. The slots above come first, so that the compiler folds the tests on the slot together.
-fn store(words: &mut [i32], slot: usize, word: i32) -> [i32; LEVELS]
+// Stores a word at a slot.
+fn store(words: &mut [i32], slot: usize, word: i32)
     requires { slot < length words.old }
-    ensures { (words.new ≡ stored words.old slot word) × (result ≡ way_words words.new slot) }
+    ensures { words.new ≡ stored words.old slot word }
 {
-    let second = paths::above(slot);
-    let third = paths::above(second);
-    let fourth = paths::above(third);
-    let first = held_after(words[slot], word);
-    words[slot] = first;
-    [first, words[second], words[third], words[fourth]]
+    words[slot] = held_after(words[slot], word);
 }
 
 // Enters a word at a slot.
@@ -140,13 +131,12 @@ pub fn enter(
 ) -> Result<(), Refusal>
     ensures { outcome (of_result result) (book_of words.new votes.new) ≡ enter_asked s (book_of words.old votes.old) slot word }
 {
-    let mut members = paths::may_relay(s);
     book::book_refused(s, words, votes)?;
-    if !paths::live_in(s, &mut members, slot) {
-        return Err(Refusal::Path);
-    }
-    let on_way = store(words, slot, word);
-    walk_up(s, &on_way, votes, &mut members, slot);
+    let mut members = paths::may_relay(s);
+    let live = paths::live_in(s, &mut members, slot);
+    refusal::when(!live, Refusal::Path)?;
+    store(words, slot, word);
+    walk_up(s, words, votes, &mut members, slot);
     Ok(())
 }
 

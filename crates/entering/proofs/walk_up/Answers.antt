@@ -8,16 +8,19 @@ use lib.ListN.{length, set}
 use Rattle.ground.proofs.Bits.{back_is}
 use Rattle.settings.specs.Settings.{slots}
 use Rattle.entering.specs.Remaking.{Remakes}
-use Rattle.entering.proofs.Steps.{Climbs, first_asks, climb_first, climb_asks, climb_level, climb_more, climb_done}
+use Rattle.entering.proofs.Steps.{Climbs, first_asks, climb_first, climb_asks, climb_level, climb_deep, climb_more, climb_done}
 use Rattle.entering.proofs.walk_up.Goals as goal
 use Rattle.entering.proofs.walk_up.Goals.{After-above-k, After-rounds_left-left, At-loop-k, In-loop-k}
-
-pub bounds-words-0 : goal.bounds-words-0
-bounds-words-0 c = omega arith
 
 -- what the re-making at the entered slot is asked
 asks : (c : After-rounds_left-left) → let a = c.args in Remakes a.votes.now a.members.now c.rounds_left-left.result c.level_of-d.result a.slot
 asks c = first_asks c.requires c.level_of-d.ensures c.rounds_left-left.ensures
+
+pub offset_bounds-words-slot : goal.offset_bounds-words-slot
+offset_bounds-words-slot c = omega (arith, (asks (goal.at.offset_bounds-words-slot c).After-rounds_left-left).slot)
+
+pub bounds-words-slot : goal.bounds-words-slot
+bounds-words-slot c = omega (arith, (asks (goal.at.bounds-words-slot c).After-rounds_left-left).slot, c.requires.whole.words_long)
 
 pub remake-first-requires : goal.remake-first-requires
 remake-first-requires c = asks (goal.at.remake-first-requires c).After-rounds_left-left
@@ -32,7 +35,7 @@ pub loop-k-init : goal.loop-k-init
 loop-k-init c = λ s vs b. b
 
 -- where the walk has come to
-here : (c : At-loop-k) → let a = c.args in Climbs a.s a.words.now a.votes.now a.slot c.loop-k.votes c.loop-k.members c.loop-k.d c.loop-k.k c.loop-k.i
+here : (c : At-loop-k) → let a = c.args in Climbs a.s a.words.now a.votes.now a.slot c.loop-k.votes c.loop-k.members c.loop-k.d c.loop-k.k
 here c =
     let start = c in
     c.loop-k.invariant start.args.s start.args.votes.now
@@ -47,22 +50,16 @@ bounds-members-last_relay c = omega (arith, c.last_relay.ensures, (here (goal.at
 pub overflow_sub-d : goal.overflow_sub-d
 overflow_sub-d c = omega (arith, climb_level (here (goal.at.overflow_sub-d c).At-loop-k) (going (goal.at.overflow_sub-d c).In-loop-k))
 
-pub overflow_add-i : goal.overflow_add-i
-overflow_add-i c = omega (arith, (here (goal.at.overflow_add-i c).At-loop-k).short)
-
-pub offset_bounds-words-i : goal.offset_bounds-words-i
-offset_bounds-words-i c = omega (arith, (here (goal.at.offset_bounds-words-i c).At-loop-k).short)
-
-pub bounds-words-i : goal.bounds-words-i
-bounds-words-i c = omega (arith, (here (goal.at.bounds-words-i c).At-loop-k).short, climb_level (here (goal.at.bounds-words-i c).At-loop-k) (going (goal.at.bounds-words-i c).In-loop-k))
-
 -- what is asked of the votes and cards one step up
 up_asks : (c : After-above-k) → let loop = c.loop-k in (length loop.votes ≡ slots) × (length (set loop.members c.last_relay.result true) ≡ 10) × (c.above-k.result < 111)
 up_asks c =
     climb_asks (here c.before.before.before.before) (going c.before.before.before) c.last_relay.ensures c.above-k.ensures
 
+pub bounds-words-k : goal.bounds-words-k
+bounds-words-k c = omega (arith, (up_asks (goal.at.bounds-words-k c).After-above-k).2, (here (goal.at.bounds-words-k c).At-loop-k).words_whole)
+
 pub overflow_add-d : goal.overflow_add-d
-overflow_add-d c = omega (arith, (here (goal.at.overflow_add-d c).At-loop-k).short)
+overflow_add-d c = omega (arith, climb_deep (here (goal.at.overflow_add-d c).At-loop-k))
 
 pub over_held-vote-requires : goal.over_held-vote-requires
 over_held-vote-requires c = up_asks (goal.at.over_held-vote-requires c).After-above-k
@@ -83,7 +80,7 @@ loop-k-preserved c =
 
 pub shape_of-votes : goal.shape_of-votes
 shape_of-votes c =
-    (here (goal.at.shape_of-votes c).At-loop-k).votes_whole ∙ sym c.requires.votes_whole
+    (here (goal.at.shape_of-votes c).At-loop-k).votes_whole ∙ sym c.requires.whole.votes_long
 
 pub returns : goal.returns
 returns c = climb_done (here (goal.at.returns c).At-loop-k) c.loop-k-test.false

@@ -7,7 +7,7 @@ use Rattle.entering.proofs.walk_up.Given as goal
 -- for all settings and votes for which the walk begins so
 abbrev pub invariant-loop-k : goal.invariant-loop-k
 invariant-loop-k l =
-    (s : Settings) (vs : List ℤ) → Climbs s l.words vs l.slot l.initial.votes l.initial.members l.initial.d l.initial.k l.initial.i → Climbs s l.words vs l.slot l.votes l.members l.d l.k l.i
+    (s : Settings) (vs : List ℤ) → Climbs s l.words vs l.slot l.initial.votes l.initial.members l.initial.d l.initial.k → Climbs s l.words vs l.slot l.votes l.members l.d l.k
 
 abbrev pub decreases-loop-k : goal.decreases-loop-k
 decreases-loop-k l = l.k
