@@ -1,16 +1,13 @@
 -- What an entering that is not refused is given, and what it leaves of a book.
 use Prim.Native.Nat.{ℕ}
 use mathlib.Core.Path.{◌≡◌, ap, ap₂, ◌∙◌}
-use mathlib.Core.Bool.{Bool}
 use mathlib.Core.List.{List}
 use lib.IntN.{ℤ}
 use lib.ListN.{length, length-set}
-use Rattle.ground.specs.Answer.{outcome}
-use Rattle.ground.specs.Checks.{verdict}
 use Rattle.settings.specs.declared.Settings.{Settings}
 use Rattle.paths.specs.Slots.{way}
 use Rattle.vote.specs.Vote.{rule_of}
-use Rattle.book.specs.Book.{Book, book_of}
+use Rattle.book.specs.Book.{book_of}
 use Rattle.entering.specs.Entered.{stored, remade_along, entered}
 
 module _ (s : Settings) (k : ℕ) (w : ℤ) where

@@ -4,12 +4,11 @@ use mathlib.Core.Path.{◌≡◌, refl, sym, ap, ◌∙◌, subst}
 use mathlib.Core.Bool.{Bool, true, false}
 use mathlib.Core.List.{List, ◌∷◌}
 use native.Mathlib.Omega.{arith}
-use native.Mathlib.Numerals.{add-one}
 use native.Mathlib.Decide.{ℕ_discrete}
 use lib.Dec.{T}
-use lib.IntN.{ℤ, pos}
-use lib.ListN.{length, set, take, drop, length-set}
-use lib.Seq.{get_or-set_same, get_or-set_other, get_or-take}
+use lib.IntN.{ℤ}
+use lib.ListN.{length, set, drop, length-set}
+use lib.Seq.{get_or-set_same, get_or-set_other}
 use Rattle.ground.specs.Lists.{at}
 use Rattle.ground.proofs.Bools.{T_eq}
 use Rattle.ground.proofs.Lists.{length-table}

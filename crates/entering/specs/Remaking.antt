@@ -1,5 +1,5 @@
 -- Re-making votes as the code does it: which cards may still relay is handed on.
-use Rattle.std.specs.Prelude.{ℕ, zero, suc, ◌+◌, ◌≤◌, ◌<◌, ◌≡◌, Bool, cond, List, [], ◌∷◌, T, ℤ, length}
+use Rattle.std.specs.Prelude.{ℕ, zero, suc, ◌+◌, ◌≤◌, ◌<◌, ◌≡◌, Bool, List, T, ℤ, length}
 use Rattle.ground.specs.Lists.{at, over}
 use Rattle.words.specs.Rule.{Rule}
 use Rattle.settings.specs.Settings.{slots}

@@ -9,7 +9,7 @@ use Rattle.ground.proofs.Bits.{back_is}
 use Rattle.ground.proofs.Verdicts.{alone}
 use Rattle.paths.proofs.Live.{live-slot}
 use Rattle.paths.proofs.Members.{in_tells, in_members}
-use Rattle.book.specs.Book.{book_of, Sized}
+use Rattle.book.specs.Book.{book_of}
 use Rattle.book.specs.Asked.{book_checks, slot_checks}
 use Rattle.book.proofs.Asking.{slot-asked}
 use Rattle.entering.specs.Entered.{stored}

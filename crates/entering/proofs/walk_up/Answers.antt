@@ -39,7 +39,7 @@ here : (c : At-loop-k) → let a = c.args in Climbs a.s a.words.now a.votes.now 
 here c =
     let start = c in
     c.loop-k.invariant start.args.s start.args.votes.now
-    (climb_first start.requires c.level_of-d.ensures c.rounds_left-left.ensures (back_is (sfits_of c.remake-first.type_inv) ∙ c.remake-first.ensures) (back_is (sfits_of c.remake-arg-1.given)))
+    (climb_first start.requires c.level_of-d.ensures c.rounds_left-left.ensures (back_is (sfits_of c.remake-first.type_inv) ∙ c.remake-first.ensures) (back_is (sfits_of c.held-1.given)))
 
 going : (c : In-loop-k) → 0 < c.loop-k.k
 going c = omega arith
