@@ -1,8 +1,6 @@
 -- Laws of ages, for every two exchange numbers, across the wrap.
-use Rattle.std.proofs.Common.{◌≡◌, ℕ, ◌+◌, ◌%◌, ◌<◌, ◌≤◌, ◌↔◌, arith, eq-eqb, ne_eqb, le-leb}
-use borrow.Author.Tests.{lt-leb}
-use Rattle.ages.specs.Ages.{next_number, age_of, class_of}
-use Rattle.ages.specs.declared.Age.TheVariants.{Current, Old, Ahead}
+use Rattle.std.proofs.Common.{◌≡◌, ℕ, ◌+◌, ◌%◌, ◌<◌, ◌↔◌, arith}
+use Rattle.ages.specs.Ages.{next_number, age_of}
 
 module _ (current frame : ℕ) (c : current < 65536) (f : frame < 65536) where
   pub age_below : age_of current frame < 65536
@@ -25,16 +23,3 @@ module _ (current frame : ℕ) (c : current < 65536) (f : frame < 65536) where
 pub age_next : (x : ℕ) → x < 65536 → age_of (next_number x) x ≡ 1
 unfolding age_of next_number
 age_next x h = omega arith
-
-module _ (age : ℕ) where
-  pub is_current : age ≡ 0 → class_of age ≡ Current
-  unfolding class_of
-  is_current e = rw (eq-eqb age 0 e)
-
-  pub is-old : 1 ≤ age → age ≤ 32767 → class_of age ≡ Old
-  unfolding class_of
-  is-old g h = rw (ne_eqb age 0 (λ q. omega arith), le-leb age 32767 h)
-
-  pub is-ahead : 32768 ≤ age → class_of age ≡ Ahead
-  unfolding class_of
-  is-ahead h = rw (ne_eqb age 0 (λ q. omega arith), lt-leb age 32767 h)

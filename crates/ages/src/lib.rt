@@ -5,25 +5,28 @@
 ghost use Rattle.std.specs.Prelude.{◌≡◌};
 ghost use Rattle.ages.specs.Ages.{next_number, age_of, class_of};
 
-#[derive(Clone, Copy)]
+#[derive(Debug, Clone, Copy, PartialEq, Eq)]
 pub enum Age {
     Current,
     Old,
     Ahead,
 }
 
+#[tactic(auto, unfolding(crate::specs::Ages::next_number))]
 pub fn next_exchange(x: u16) -> u16
     ensures { result ≡ next_number x }
 {
-    std::num::wrapping_add_u16(x, 1)
+    x.wrapping_add(1)
 }
 
+#[tactic(auto, unfolding(crate::specs::Ages::age_of))]
 pub fn age_of(current: u16, frame: u16) -> u16
     ensures { result ≡ age_of current frame }
 {
-    std::num::wrapping_sub_u16(current, frame)
+    current.wrapping_sub(frame)
 }
 
+#[tactic(auto, unfolding(crate::specs::Ages::class_of))]
 pub fn age_class(current: u16, frame: u16) -> Age
     ensures { result ≡ class_of (age_of current frame) }
 {

@@ -21,10 +21,6 @@ use Rattle.frames.specs.Asked.{read_checks, write_checks, read_asked, write_aske
 use Rattle.frames.specs.declared.Frame.{Frame}
 use Rattle.frames.proofs.Asking.{Passed, passed_all}
 
-pub length-bytes : (f : Frame) → length (bytes_of f) ≡ 17
-unfolding bytes_of bytes16 bytes32
-length-bytes f = refl
-
 -- ---- from a record to its frame and back
 
 module _ (f : Frame) (r : InRange f) where

@@ -24,7 +24,7 @@ const LAST_LEVEL: u8 = 3;
 const UNUSED: u8 = 255;
 
 // A frame's fields as they lie in the frame.
-#[derive(Clone, Copy)]
+#[derive(Debug, Clone, Copy, PartialEq, Eq)]
 pub struct Frame {
     pub exchange: u16,
     pub sender: u8,
@@ -65,6 +65,7 @@ fn well_formed(f: Frame) -> bool
 }
 
 // The fields of bytes, whether or not they are a frame.
+#[tactic(auto, unfolding(crate::specs::Frame::frame_of))]
 pub fn frame_of(s: &[u8]) -> Frame
     ensures { result ≡ frame_of s.now }
 {
@@ -99,30 +100,31 @@ pub fn read(bytes: &[u8]) -> Result<Frame, Refusal>
 }
 
 // The bytes that carry a record.
+#[tactic(auto, unfolding(crate::specs::Frame::bytes_of, ground::specs::Bytes::bytes16, ground::specs::Bytes::bytes32))]
 fn bytes_of(f: Frame) -> [u8; Frame::SIZE]
     ensures { result ≡ bytes_of f }
 {
-    let bits = bytes::to_bits(f.word);
-    let high = bits / 65_536;
-    let low = bits % 65_536;
+    let version = VERSION.to_be_bytes();
+    let exchange = f.exchange.to_be_bytes();
+    let word = bytes::to_bits(f.word).to_be_bytes();
     [
         MARK[0],
         MARK[1],
         MARK[2],
-        (VERSION / 256) as u8,
-        (VERSION % 256) as u8,
-        (f.exchange / 256) as u8,
-        (f.exchange % 256) as u8,
+        version[0],
+        version[1],
+        exchange[0],
+        exchange[1],
         f.sender,
         f.level,
         f.q1,
         f.q2,
         f.q3,
         f.receiver,
-        (high / 256) as u8,
-        (high % 256) as u8,
-        (low / 256) as u8,
-        (low % 256) as u8,
+        word[0],
+        word[1],
+        word[2],
+        word[3],
     ]
 }
 
@@ -131,10 +133,7 @@ fn put(frame: Frame, buffer: &mut [u8])
     requires { length buffer.old ≡ 17 }
     ensures { buffer.new ≡ bytes_of frame }
 {
-    let made = bytes_of(frame);
-    for i in 0..Frame::SIZE {
-        buffer[i] = made[i];
-    }
+    buffer.copy_from_slice(&bytes_of(frame));
 }
 
 pub fn write(frame: Frame, buffer: &mut [u8]) -> Result<(), Refusal>

@@ -1,3 +1,2 @@
-pub mod Twenty
 pub mod Good
 pub mod Fixed

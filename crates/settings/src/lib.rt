@@ -34,11 +34,6 @@ pub struct Settings {
     pub p: usize,
 }
 
-// Ten cards that fit, then ten that do not.
-const TEN: [bool; 20] = [
-    true, true, true, true, true, true, true, true, true, true, false, false, false, false, false,
-    false, false, false, false, false,
-];
 
 impl Settings {
     pub const MAX_CARDS: usize = 10;
@@ -71,21 +66,12 @@ pub fn fits(rack: Rack, q: usize) -> bool
     q < rack.n
 }
 
-// Which of the ten cards fit: the ten places from 10 - n on of ten that fit and ten that do not.
+// Which of the ten cards fit.
+#[tactic(auto, unfolding(ground::specs::Lists::table))]
 pub fn fitted(rack: Rack) -> [bool; Settings::MAX_CARDS]
     ensures { result ≡ table most_cards 0 (fits rack) }
 {
-    let n = cards(rack);
-    let from = if n < Settings::MAX_CARDS {
-        Settings::MAX_CARDS - n
-    } else {
-        0
-    };
-    let mut found = [false; Settings::MAX_CARDS];
-    for q in 0..Settings::MAX_CARDS {
-        found[q] = TEN[from + q];
-    }
-    found
+    std::array::from_fn(|q| fits(rack, q))
 }
 
 // Whether a rack is refused: `Err` where it is.
