@@ -1,8 +1,7 @@
 -- Each public function's contract fixes its answer, and the lent buffer afterwards: two outcomes that it allows are equal.
 use Prim.Native.Nat.{ℕ}
-use mathlib.Core.Path.{◌≡◌, sym, ap, ◌∙◌}
+use mathlib.Core.Path.{sym, ◌∙◌}
 use mathlib.Core.List.{List}
-use native.Mathlib.Omega.{arith}
 use Rattle.ground.specs.Fixes.{Fixes}
 use Rattle.ground.specs.Answer.{Outcome, outcome}
 use Rattle.std.specs.Prelude.{Result}

@@ -8,9 +8,8 @@ ghost use Rattle.ground.specs.Answer.{outcome, refusal_of, of_result};
 ghost use Rattle.frames.specs.Frame.{frame_of, bytes_of, relay_formed, well_formed};
 ghost use Rattle.frames.specs.Asked.{read_checks, read_asked, write_asked};
 
-use ground::bytes;
-use ground::refusal;
 use ground::refusal::Refusal;
+use ground::{bytes, refusal};
 
 const MARK: [u8; 3] = *b"OMH";
 

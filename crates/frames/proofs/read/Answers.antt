@@ -1,12 +1,13 @@
 -- `frames::read` meets its contract: the verdict decides.
-use Rattle.ground.proofs.Answers.{answer-refused, answer-given}
+use mathlib.Core.Path.{refl}
+use Rattle.ground.proofs.Answers.{leaves_answer, answer-given}
 use Rattle.frames.specs.Asked.{read_asked}
 use Rattle.frames.proofs.read.Goals as goal
 
-pub returns-then-no-ne0 : goal.returns-then-no-ne0
+pub returns-in_err-refused : goal.returns-in_err-refused
 unfolding read_asked
-returns-then-no-ne0 c = answer-refused c.refused-no.ensures c.if-no-ne0.true _
+returns-in_err-refused c = leaves_answer _ _ c.from_residual.ensures.1 c.in_err-refused.ensures _
 
 pub returns : goal.returns
 unfolding read_asked
-returns c = answer-given c.refused-no.ensures c.if-no-ne0.false c.frame_of.ensures
+returns c = answer-given c.in_ok-refused.ensures refl c.frame_of.ensures

@@ -1,26 +1,27 @@
--- `frames::refused` meets its contract: each return is a verdict of `read_checks`.
+-- `frames::refused` meets its contract: the checks of `read_checks`, one after the other.
 use mathlib.Core.Path.{ap, ◌∙◌}
+use mathlib.Core.Bool.{not}
+use Rattle.ground.proofs.Answers.{leaves_refusal, refused-first, then-decided}
+use Rattle.ground.proofs.Verdicts.{alone}
 use Rattle.frames.specs.Frame.{well_formed}
-use Rattle.frames.proofs.Asking.{by_size, by_mark, by_version, by_form, unrefused}
 use Rattle.frames.proofs.refused.Goals as goal
 
-pub returns-then-s-ne-SIZE : goal.returns-then-s-ne-SIZE
-returns-then-s-ne-SIZE c = by_size c.args.s.now c.if-s-ne-SIZE.true
+pub returns-in_err-when : goal.returns-in_err-when
+returns-in_err-when c = leaves_refusal _ _ c.from_residual.ensures.1 (refused-first _ _ tt _ c.in_err-when.ensures)
 
-pub returns-then-not-starts_with : goal.returns-then-not-starts_with
-returns-then-not-starts_with c =
-    by_mark _ c.if-s-ne-SIZE.false c.starts_with.ensures c.if-not-starts_with.true-raw
+pub returns-in_err-when-2 : goal.returns-in_err-when-2
+returns-in_err-when-2 c =
+    leaves_refusal _ _ c.from_residual-in_err-when-2.ensures.1
+    (then-decided _ _ tt c.in_ok-when.ensures (refused-first _ _ tt _ (alone 10 c.in_err-when-2.ensures (ap not c.starts_with.ensures))))
 
-pub returns-then-get16-ne-VERSION : goal.returns-then-get16-ne-VERSION
-returns-then-get16-ne-VERSION c =
-    by_version _ c.if-s-ne-SIZE.false c.starts_with.ensures c.if-not-starts_with.false-raw c.get16.ensures c.if-get16-ne-VERSION.true
-
-pub returns-then-not-well_formed : goal.returns-then-not-well_formed
-returns-then-not-well_formed c =
-    by_form _ c.if-s-ne-SIZE.false c.starts_with.ensures c.if-not-starts_with.false-raw c.get16.ensures c.if-get16-ne-VERSION.false
-    (c.well_formed-2.ensures ∙ ap well_formed c.frame_of.ensures) c.if-not-well_formed.true-raw
+pub returns-in_err-when-3 : goal.returns-in_err-when-3
+returns-in_err-when-3 c =
+    leaves_refusal _ _ c.from_residual-in_err-when-3.ensures.1
+    (then-decided _ _ tt c.in_ok-when.ensures (then-decided _ _ tt (alone 10 c.in_ok-when-2.ensures (ap not c.starts_with.ensures)) (refused-first _ _ tt _ (alone 11 c.in_err-when-3.ensures (cc c.get16.ensures)))))
 
 pub returns : goal.returns
 returns c =
-    unrefused _ c.if-s-ne-SIZE.false c.starts_with.ensures c.if-not-starts_with.false-raw c.get16.ensures c.if-get16-ne-VERSION.false
-    (c.well_formed-2.ensures ∙ ap well_formed c.frame_of.ensures) c.if-not-well_formed.false-raw
+    then-decided _ _ tt c.in_ok-when.ensures
+    (then-decided _ _ tt (alone 10 c.in_ok-when-2.ensures (ap not c.starts_with.ensures))
+    (then-decided _ _ tt (alone 11 c.in_ok-when-3.ensures (cc c.get16.ensures))
+    (alone 14 c.when-4.ensures (ap not (c.well_formed-2.ensures ∙ ap well_formed c.frame_of.ensures)))))

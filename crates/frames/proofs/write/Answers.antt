@@ -1,29 +1,25 @@
--- `frames::write` meets its contract: the verdict decides, and none tells the buffer's length.
-use mathlib.Core.Path.{◌≡◌, sym, ap, ◌∙◌}
+-- `frames::write` meets its contract: the buffer's length, then the record.
+use mathlib.Core.Path.{refl, sym, ap}
 use mathlib.Core.Bool.{not}
 use borrow.Author.Tests.{eqb-true, not-false}
-use Rattle.ground.specs.Checks.{verdict}
-use Rattle.ground.proofs.Answers.{outcome-refused, outcome_done}
-use Rattle.ground.proofs.Verdicts.{no_verdict, alone, joined}
-use Rattle.frames.specs.Asked.{write_checks, write_asked}
+use Rattle.ground.proofs.Answers.{leaves_outcome, outcome_done, refused-first, then-decided}
+use Rattle.ground.proofs.Verdicts.{no_verdict, alone}
+use Rattle.frames.specs.Asked.{write_asked}
 use Rattle.frames.proofs.write.Goals as goal
-use Rattle.frames.proofs.write.Goals.{After-first-no}
 
--- the verdict on the buffer, then the record
-told : (c : After-first-no) → let a = c.args in c.first-no.result ≡ verdict (write_checks a.frame a.buffer.now)
-told c =
-    joined _ _ tt c.first-no.ensures c.when.ensures (alone 14 c.when-2.ensures (ap not c.well_formed-2.ensures))
-
-pub returns-then-no-ne0 : goal.returns-then-no-ne0
+pub returns-in_err-when : goal.returns-in_err-when
 unfolding write_asked
-returns-then-no-ne0 c = outcome-refused (told (goal.at.returns-then-no-ne0 c).After-first-no) c.if-no-ne0.true _ _
+returns-in_err-when c = leaves_outcome _ _ c.from_residual.ensures.1 (refused-first _ _ tt _ c.in_err-when.ensures) _ _
+
+pub returns-in_err-when-2 : goal.returns-in_err-when-2
+unfolding write_asked
+returns-in_err-when-2 c =
+    leaves_outcome _ _ c.from_residual-in_err-when-2.ensures.1 (then-decided _ _ tt c.in_ok-when.ensures (alone 14 c.in_err-when-2.ensures (ap not c.well_formed-2.ensures))) _ _
 
 pub put-requires : goal.put-requires
-put-requires c =
-    let a = c.args in
-    eqb-true _ _ (not-false _ (no_verdict (write_checks a.frame a.buffer.now) tt (sym (told (goal.at.put-requires c).After-first-no) ∙ c.if-no-ne0.false)).0)
+put-requires c = eqb-true _ _ (not-false _ (no_verdict _ tt (sym c.in_ok-when.ensures)).0)
 
 pub returns : goal.returns
 unfolding write_asked
 returns c =
-    outcome_done (told (goal.at.returns c).After-first-no) c.if-no-ne0.false _ c.put.ensures
+    outcome_done (then-decided _ _ tt c.in_ok-when.ensures (alone 14 c.in_ok-when-2.ensures (ap not c.well_formed-2.ensures))) refl _ c.put.ensures
