@@ -8,7 +8,9 @@ use Rattle.ground.specs.Lists.{count}
 use Rattle.words.specs.Majority.{same}
 use Rattle.words.specs.Rule.{Rule, omh}
 use Rattle.settings.specs.Settings.{cards, fits}
-use Rattle.exchange.specs.Exchange.{Status, good, arbitrary, symmetric, manifest, Exchange}
+use Rattle.exchange.specs.declared.Status.{Status}
+use Rattle.exchange.specs.declared.Status.TheVariants.{Good, Arbitrary, Symmetric, Manifest}
+use Rattle.exchange.specs.Exchange.{Exchange}
 use Rattle.bound.specs.Bound.{is_arbitrary, is_symmetric, is_manifest, arbitraries, symmetrics, manifests}
 use Rattle.bound.proofs.Says.{Enough}
 use Rattle.agreement.proofs.Sums.{sum, total}
@@ -24,10 +26,10 @@ cost_by R X zero q = omega arith
 cost_by R X (suc c) q = go (fits X.rack q) (X.status q) _ _ _ _ (cost_by R X c (suc q))
   where
     go : (f : Bool) (s : Status) (l a b d : ℕ) → l ≡ 2 * a + 2 * b + price R * d → cond f (cost R s) 0 + l ≡ 2 * cond (f && is_arbitrary s) (suc a) a + 2 * cond (f && is_symmetric s) (suc b) b + price R * cond (f && is_manifest s) (suc d) d
-    go true good l a b d e = omega arith
-    go true arbitrary l a b d e = omega arith
-    go true symmetric l a b d e = omega arith
-    go true manifest l a b d e = rw (mul-suc (price R) d) (omega arith)
+    go true Good l a b d e = omega arith
+    go true Arbitrary l a b d e = omega arith
+    go true Symmetric l a b d e = omega arith
+    go true Manifest l a b d e = rw (mul-suc (price R) d) (omega arith)
     go false s l a b d e = omega arith
 
 -- 2a + 2s + price c

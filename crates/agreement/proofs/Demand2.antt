@@ -12,7 +12,9 @@ use Rattle.words.proofs.Reading.{as_ordinary, itself, read-E}
 use Rattle.words.proofs.Lawful.{omh_lawful}
 use Rattle.settings.specs.Settings.{cards, fits}
 use Rattle.vote.proofs.Votes.{answer_kind}
-use Rattle.exchange.specs.Exchange.{Status, good, symmetric, manifest, Exchange, settings_for, sent, received, answer_of}
+use Rattle.exchange.specs.declared.Status.{Status}
+use Rattle.exchange.specs.declared.Status.TheVariants.{Good, Symmetric, Manifest}
+use Rattle.exchange.specs.Exchange.{Exchange, settings_for, sent, received, answer_of}
 use Rattle.bound.specs.Bound.{is_arbitrary, arbitraries, symmetrics, manifests, enough, bounded}
 use Rattle.bound.proofs.Says.{enough_says, bounded_says}
 use Rattle.agreement.proofs.Costs.{omh-enough}
@@ -44,15 +46,15 @@ pub record Proper (X : Exchange) : Type 0 where
 -- p is one of the cards, and good; it may be the sender
 pub record GoodCard (X : Exchange) (p : ℕ) : Type 0 where
   pub card : T (fits X.rack p)
-  pub is_good : X.status p ≡ good
+  pub is_good : X.status p ≡ Good
 
 pub record Demand2 (X : Exchange) : Type 0 where
   -- Where n > 2a + 2s + c + m, a good card answers: the sender's value, if the sender is good and its value ordinary,
-  pub sender_good : enough X.rack X.status ≡ true → X.status X.sender ≡ good → kind_of X.value ≡ Ordinary → (p : ℕ) → GoodCard X p → answer_of omh X p ≡ X.value
+  pub sender_good : enough X.rack X.status ≡ true → X.status X.sender ≡ Good → kind_of X.value ≡ Ordinary → (p : ℕ) → GoodCard X p → answer_of omh X p ≡ X.value
   -- the word that the sender sent to everyone, read at level 0, if it is symmetric,
-  pub sender_symmetric : enough X.rack X.status ≡ true → X.status X.sender ≡ symmetric → (p : ℕ) → GoodCard X p → answer_of omh X p ≡ read_at 0 (X.tabled 0 0)
+  pub sender_symmetric : enough X.rack X.status ≡ true → X.status X.sender ≡ Symmetric → (p : ℕ) → GoodCard X p → answer_of omh X p ≡ read_at 0 (X.tabled 0 0)
   -- and E, if it is manifest.
-  pub sender_manifest : enough X.rack X.status ≡ true → X.status X.sender ≡ manifest → (p : ℕ) → GoodCard X p → answer_of omh X p ≡ E
+  pub sender_manifest : enough X.rack X.status ≡ true → X.status X.sender ≡ Manifest → (p : ℕ) → GoodCard X p → answer_of omh X p ≡ E
   -- Where the bound holds, any two good cards answer the same, whatever the sender's status.
   pub agree : bounded X.rack X.status ≡ true → (p p' : ℕ) → GoodCard X p → GoodCard X p' → answer_of omh X p ≡ answer_of omh X p'
   -- These two tests say exactly: n > 2a + 2s + c + m; and that a is at most m as well.
@@ -66,9 +68,9 @@ pub record Demand2 (X : Exchange) : Type 0 where
 pub demand_2 : (X : Exchange) → Proper X → Demand2 X
 unfolding sent answer_of
 demand_2 X proper = record {
-  sender_good = λ e q o p g. valid e good q refl p g ∙ itself 0 X.value (as_ordinary o);
-  sender_symmetric = λ e q p g. valid e symmetric q refl p g;
-  sender_manifest = λ e q p g. valid e manifest q refl p g ∙ read-E 0;
+  sender_good = λ e q o p g. valid e Good q refl p g ∙ itself 0 X.value (as_ordinary o);
+  sender_symmetric = λ e q p g. valid e Symmetric q refl p g;
+  sender_manifest = λ e q p g. valid e Manifest q refl p g ∙ read-E 0;
   agree = λ b p p' g g'.
       let says = (bounded_says X.rack X.status).0 b in
       agreement omh X omh_lawful proper.ten proper.three proper.sends (omh-enough X says.0) says.1 p p' g.card g'.card g.is_good g'.is_good;

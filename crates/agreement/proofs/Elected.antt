@@ -13,7 +13,8 @@ use Rattle.words.specs.Majority.{same, kept, occurs}
 use Rattle.words.specs.Rule.{Rule, majority_by}
 use Rattle.words.proofs.Same.{same_refl}
 use Rattle.words.proofs.Counts.{over_is, by_counts}
-use Rattle.exchange.specs.Exchange.{Status, good, arbitrary, symmetric, manifest}
+use Rattle.exchange.specs.declared.Status.{Status}
+use Rattle.exchange.specs.declared.Status.TheVariants.{Good, Arbitrary, Symmetric, Manifest}
 use Rattle.agreement.proofs.Sums.{sum, total, occurs-sum, Less, less_total}
 
 -- what a manifest card costs in the bound: 1 where the word for none is struck from votes, 2 where it is counted
@@ -22,17 +23,17 @@ price R = cond (R.struck R.none) 1 2
 
 -- what a card of each status costs
 abbrev pub cost : Rule → Status → ℕ
-cost R good = 0
-cost R arbitrary = 2
-cost R symmetric = 2
-cost R manifest = price R
+cost R Good = 0
+cost R Arbitrary = 2
+cost R Symmetric = 2
+cost R Manifest = price R
 
 -- a card of this status votes so: v if it is good, the word for none if it is manifest, any word otherwise
 abbrev pub Says : Rule → ℤ → Status → ℤ → Type 0
-Says R v good w = w ≡ v
-Says R v arbitrary w = Unit {0}
-Says R v symmetric w = Unit {0}
-Says R v manifest w = w ≡ R.none
+Says R v Good w = w ≡ v
+Says R v Arbitrary w = Unit {0}
+Says R v Symmetric w = Unit {0}
+Says R v Manifest w = w ≡ R.none
 
 -- ---- n votes of cards that cost c together: where c is below n, v has more than half of what is left of them
 
@@ -53,10 +54,10 @@ module _ (R : Rule) (v : ℤ) (l : List ℤ) (n c : ℕ) (leads : Leads R v l n 
   -- a card's vote costs what the card does
   lead_more : R.struck v ≡ false → (s : Status) (w : ℤ) → Says R v s w → Leads R v (w ∷ l) (suc n) (cost R s + c)
   unfolding kept occurs
-  lead_more k good w e = rw (e, k, same_refl v) (omega arith)
-  lead_more k arbitrary w e = lead_any w
-  lead_more k symmetric w e = lead_any w
-  lead_more k manifest w e = go (R.struck R.none) refl
+  lead_more k Good w e = rw (e, k, same_refl v) (omega arith)
+  lead_more k Arbitrary w e = lead_any w
+  lead_more k Symmetric w e = lead_any w
+  lead_more k Manifest w e = go (R.struck R.none) refl
     where
       go : (b : Bool) → R.struck R.none ≡ b → Leads R v (w ∷ l) (suc n) (cond b 1 2 + c)
       go true s = rw (e, s) (omega arith)

@@ -5,7 +5,9 @@ use mathlib.Core.Bool.{false}
 use lib.IntN.{ℤ}
 use Rattle.words.specs.Rule.{Rule}
 use Rattle.paths.specs.Slots.{below}
-use Rattle.exchange.specs.Exchange.{Status, good, arbitrary, symmetric, manifest, Exchange, sent, dealt}
+use Rattle.exchange.specs.declared.Status.{Status}
+use Rattle.exchange.specs.declared.Status.TheVariants.{Good, Arbitrary, Symmetric, Manifest}
+use Rattle.exchange.specs.Exchange.{Exchange, sent, dealt}
 use Rattle.exchange.proofs.Dealing.{dealt-first, dealt-below}
 use Rattle.bound.specs.Bound.{is_arbitrary}
 
@@ -16,10 +18,10 @@ Fair R X k = (p : ℕ) → dealt R X k p ≡ dealt R X k 0
 -- a card that is not arbitrary sends the same to everyone
 sent-same : (s : Status) (w a b first : ℤ) → is_arbitrary s ≡ false → sent s w a first ≡ sent s w b first
 unfolding sent
-sent-same good w a b first e = refl
-sent-same arbitrary w a b first e = cc
-sent-same symmetric w a b first e = refl
-sent-same manifest w a b first e = refl
+sent-same Good w a b first e = refl
+sent-same Arbitrary w a b first e = cc
+sent-same Symmetric w a b first e = refl
+sent-same Manifest w a b first e = refl
 
 module _ (R : Rule) (X : Exchange) where
   -- from the sender

@@ -13,7 +13,8 @@ use Rattle.paths.proofs.Levels.{level-below, level_small}
 use Rattle.vote.specs.Vote.{vote}
 use Rattle.vote.proofs.Votes.{vote_is}
 use Rattle.vote.proofs.Handed.{from_longer}
-use Rattle.exchange.specs.Exchange.{good, Exchange, settings_for, dealt, received}
+use Rattle.exchange.specs.declared.Status.TheVariants.{Good}
+use Rattle.exchange.specs.Exchange.{Exchange, settings_for, dealt, received}
 use Rattle.exchange.proofs.Dealing.{at-received}
 use Rattle.agreement.proofs.Sums.{total, Less, less_total, less_count}
 use Rattle.agreement.proofs.Elected.{cost, pooled}
@@ -29,7 +30,7 @@ pub record Goes (R : Rule) (X : Exchange) (r k : ℕ) : Type 0 where
 -- p is a good card that votes there
 pub record Votes (X : Exchange) (k p : ℕ) : Type 0 where
   pub place : p < 10
-  pub is_good : X.status p ≡ good
+  pub is_good : X.status p ≡ Good
   pub stays : T (left X k p)
   pub alive : T (live (settings_for X p) k)
 

@@ -15,7 +15,9 @@ use Rattle.paths.specs.Slots.{below, level}
 use Rattle.paths.proofs.Levels.{level-below}
 use Rattle.vote.proofs.Votes.{vote_is}
 use Rattle.vote.proofs.Handed.{from_last}
-use Rattle.exchange.specs.Exchange.{Status, good, arbitrary, symmetric, manifest, Exchange, settings_for, sent, dealt}
+use Rattle.exchange.specs.declared.Status.{Status}
+use Rattle.exchange.specs.declared.Status.TheVariants.{Good, Arbitrary, Symmetric, Manifest}
+use Rattle.exchange.specs.Exchange.{Exchange, settings_for, sent, dealt}
 use Rattle.exchange.proofs.Dealing.{at-received, dealt-below}
 use Rattle.bound.specs.Bound.{is_arbitrary}
 use Rattle.agreement.proofs.Sums.{total, less_total}
@@ -36,11 +38,11 @@ arbitrary_left X k = total (left X k) (λ q. cond (is_arbitrary (X.status q)) 1 
 abbrev pub Agrees : Rule → Exchange → ℕ → Type 0
 Agrees R X r = (k p p' : ℕ) → Goes R X r k → Votes X k p → Votes X k p' → Fair R X k ⊎ (arbitrary_left X k < r) → vote_of R X k p ≡ vote_of R X k p'
 
-is_good : (s : Status) → Dec (s ≡ good)
-is_good good = yes refl
-is_good arbitrary = no (λ e. let z : ◌≡◌ {A = ℕ} 0 1 = cc in omega arith)
-is_good symmetric = no (λ e. let z : ◌≡◌ {A = ℕ} 0 1 = cc in omega arith)
-is_good manifest = no (λ e. let z : ◌≡◌ {A = ℕ} 0 1 = cc in omega arith)
+is_good : (s : Status) → Dec (s ≡ Good)
+is_good Good = yes refl
+is_good Arbitrary = no (λ e. let z : ◌≡◌ {A = ℕ} 0 1 = cc in omega arith)
+is_good Symmetric = no (λ e. let z : ◌≡◌ {A = ℕ} 0 1 = cc in omega arith)
+is_good Manifest = no (λ e. let z : ◌≡◌ {A = ℕ} 0 1 = cc in omega arith)
 
 module _ (R : Rule) (X : Exchange) (L : Lawful R) where
   -- ---- what p counts for q, where lemma 1 holds one relay longer
@@ -54,7 +56,7 @@ module _ (R : Rule) (X : Exchange) (L : Lawful R) where
         ∙ rw (level-below k q (small goes) h)
 
     -- for a good card, p or another: what it passes on
-    heard_good : X.status q ≡ good → heard R X k p q ≡ passed R X k q
+    heard_good : X.status q ≡ Good → heard R X k p q ≡ passed R X k q
     unfolding sent
     heard_good g = go (ℕ_discrete q p)
       where
@@ -68,10 +70,10 @@ module _ (R : Rule) (X : Exchange) (L : Lawful R) where
     -- where everyone receives the same at k, a good card passes that on, and a manifest one counts as none
     heard_says : Fair R X k → (s : Status) → X.status q ≡ s → Says R (passed R X k 0) s (heard R X k p q)
     unfolding sent
-    heard_says fair good e = heard_good e ∙ ap (λ (w : ℤ). R.wrap (R.read (level k) w)) (fair q)
-    heard_says fair arbitrary e = tt
-    heard_says fair symmetric e = tt
-    heard_says fair manifest e =
+    heard_says fair Good e = heard_good e ∙ ap (λ (w : ℤ). R.wrap (R.read (level k) w)) (fair q)
+    heard_says fair Arbitrary e = tt
+    heard_says fair Symmetric e = tt
+    heard_says fair Manifest e =
         heard_fair (λ s. let z : ◌≡◌ {A = ℕ} 0 1 = cc in omega arith) (fair_below R X k q (small goes) h (ap is_arbitrary e))
         ∙ ap (R.read (suc (level k))) (dealt-below R X k q (small goes) h 0 ∙ rw e)
         ∙ L.missing_reads (suc (level k))
@@ -99,7 +101,7 @@ module _ (R : Rule) (X : Exchange) (L : Lawful R) where
       ∙ ap (λ (l : List ℤ). R.unwrap (majority_by R l)) (over-same (left X k) _ _ 10 0 (λ q a h t. same q h t (is_good (X.status q))))
       ∙ sym (vote_heard goes votes')
     where
-      same : (q : ℕ) → q < 10 → T (left X k q) → Dec (X.status q ≡ good) → heard R X k p q ≡ heard R X k p' q
+      same : (q : ℕ) → q < 10 → T (left X k q) → Dec (X.status q ≡ Good) → heard R X k p q ≡ heard R X k p' q
       same q h t (yes g) = heard_good (valid r) goes votes q h t g ∙ sym (heard_good (valid r) goes votes' q h t g)
       same q h t (no n) =
           heard_other R X k p q (apart p votes)

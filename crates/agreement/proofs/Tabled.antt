@@ -12,7 +12,9 @@ use Rattle.paths.specs.Slots.{above, last_relay, level, live}
 use Rattle.paths.proofs.Levels.{level_zero, level-above, pos_level}
 use Rattle.paths.proofs.Live.{live-slot}
 use Rattle.paths.proofs.Relays.{relay_received}
-use Rattle.exchange.specs.Exchange.{Status, good, arbitrary, symmetric, manifest, Exchange, settings_for, sent, dealt_at, received, answer_of}
+use Rattle.exchange.specs.declared.Status.{Status}
+use Rattle.exchange.specs.declared.Status.TheVariants.{Good, Arbitrary, Symmetric, Manifest}
+use Rattle.exchange.specs.Exchange.{Exchange, settings_for, sent, dealt_at, received, answer_of}
 use Rattle.exchange.proofs.Dealing.{at-received, answer_from}
 
 -- the exchange with another table
@@ -36,15 +38,15 @@ pub record Asks (X : Exchange) (k p : ℕ) : Type 0 where
 
 -- the other table holds the same word for each card that asks, where an arbitrary card sends, and for receiver 0, where a symmetric card sends
 pub record SameAsked (X : Exchange) (other : ℕ → ℕ → ℤ) : Type 0 where
-  pub for_card : (k p : ℕ) → Asks X k p → X.status (sends X k) ≡ arbitrary → X.tabled k p ≡ other k p
-  pub for_all : (k p : ℕ) → Asks X k p → X.status (sends X k) ≡ symmetric → X.tabled k 0 ≡ other k 0
+  pub for_card : (k p : ℕ) → Asks X k p → X.status (sends X k) ≡ Arbitrary → X.tabled k p ≡ other k p
+  pub for_all : (k p : ℕ) → Asks X k p → X.status (sends X k) ≡ Symmetric → X.tabled k 0 ≡ other k 0
 
-sent-asked : (s : Status) (w w' a a' b b' : ℤ) → w ≡ w' → (s ≡ arbitrary → a ≡ a') → (s ≡ symmetric → b ≡ b') → sent s w a b ≡ sent s w' a' b'
+sent-asked : (s : Status) (w w' a a' b b' : ℤ) → w ≡ w' → (s ≡ Arbitrary → a ≡ a') → (s ≡ Symmetric → b ≡ b') → sent s w a b ≡ sent s w' a' b'
 unfolding sent
-sent-asked good w w' a a' b b' e f g = e
-sent-asked arbitrary w w' a a' b b' e f g = f refl
-sent-asked symmetric w w' a a' b b' e f g = g refl
-sent-asked manifest w w' a a' b b' e f g = refl
+sent-asked Good w w' a a' b b' e f g = e
+sent-asked Arbitrary w w' a a' b b' e f g = f refl
+sent-asked Symmetric w w' a a' b b' e f g = g refl
+sent-asked Manifest w w' a a' b b' e f g = refl
 
 module _ (R : Rule) (X : Exchange) (other : ℕ → ℕ → ℤ) (same : SameAsked X other) where
   by_sender : (k p q : ℕ) (w w' : ℤ) → Asks X k p → sends X k ≡ q → w ≡ w' → sent (X.status q) w (X.tabled k p) (X.tabled k 0) ≡ sent (X.status q) w' (other k p) (other k 0)

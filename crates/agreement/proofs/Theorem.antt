@@ -13,7 +13,9 @@ use Rattle.settings.proofs.Good.{fits_count, fits_ten}
 use Rattle.paths.specs.Slots.{level}
 use Rattle.paths.proofs.Live.{live_zero}
 use Rattle.vote.proofs.Handed.{vote-own}
-use Rattle.exchange.specs.Exchange.{Status, good, Exchange, settings_for, sent, dealt, answer_of}
+use Rattle.exchange.specs.declared.Status.{Status}
+use Rattle.exchange.specs.declared.Status.TheVariants.{Good}
+use Rattle.exchange.specs.Exchange.{Exchange, settings_for, sent, dealt, answer_of}
 use Rattle.exchange.proofs.Dealing.{dealt-first, at-received}
 use Rattle.bound.specs.Bound.{is_arbitrary, arbitraries}
 use Rattle.agreement.proofs.Sums.{count_both, Less, less_total, less_count}
@@ -44,7 +46,7 @@ module _ (R : Rule) (X : Exchange) (L : Lawful R) (ten : cards X.rack ≤ 10) (f
     spare = omega (arith, less_total _ _ _ first (λ q. cost R (X.status q)), less_count _ _ _ first, cost_all R X, fits_count X.rack ten);
   }
 
-  votes : (p : ℕ) → T (fits X.rack p) → X.status p ≡ good → (p ≡ X.sender → ⊥) → Votes X 0 p
+  votes : (p : ℕ) → T (fits X.rack p) → X.status p ≡ Good → (p ≡ X.sender → ⊥) → Votes X 0 p
   votes p f g n =
       let h = fits_ten X.rack ten p f in
       record { place = h; is_good = g; stays = rw (first.others p h n) f; alive = live_zero (settings_for X p) }
@@ -52,7 +54,7 @@ module _ (R : Rule) (X : Exchange) (L : Lawful R) (ten : cards X.rack ≤ 10) (f
   -- ---- the answers
 
   -- where the sender is not arbitrary, a good card answers what everyone receives from it, as read
-  valid_first : is_arbitrary (X.status X.sender) ≡ false → (p : ℕ) → T (fits X.rack p) → X.status p ≡ good → answer_of R X p ≡ R.read 0 (dealt R X 0 0)
+  valid_first : is_arbitrary (X.status X.sender) ≡ false → (p : ℕ) → T (fits X.rack p) → X.status p ≡ Good → answer_of R X p ≡ R.read 0 (dealt R X 0 0)
   unfolding answer_of level
   valid_first fair p f g = go (ℕ_discrete p X.sender)
     where
@@ -61,16 +63,16 @@ module _ (R : Rule) (X : Exchange) (L : Lawful R) (ten : cards X.rack ≤ 10) (f
       go (no n) = valid R X L X.rack.m 0 p goes (votes p f g n) (fair_first R X fair)
 
   -- lemma 1: a good card answers what a sender of that status, not arbitrary, sends to everyone, as read
-  pub validity : (s : Status) → X.status X.sender ≡ s → is_arbitrary s ≡ false → (p : ℕ) → T (fits X.rack p) → X.status p ≡ good → answer_of R X p ≡ R.read 0 (sent s X.value (X.tabled 0 0) (X.tabled 0 0))
+  pub validity : (s : Status) → X.status X.sender ≡ s → is_arbitrary s ≡ false → (p : ℕ) → T (fits X.rack p) → X.status p ≡ Good → answer_of R X p ≡ R.read 0 (sent s X.value (X.tabled 0 0) (X.tabled 0 0))
   validity s e fair p f g = valid_first (ap is_arbitrary e ∙ fair) p f g ∙ ap (R.read 0) (sym (dealt-first R X 0 0 refl refl refl) ∙ rw e)
 
   -- theorem 1: where also a is at most m, two good cards answer the same
-  pub agreement : arbitraries X.rack X.status ≤ X.rack.m → (p p' : ℕ) → T (fits X.rack p) → T (fits X.rack p') → X.status p ≡ good → X.status p' ≡ good → answer_of R X p ≡ answer_of R X p'
+  pub agreement : arbitraries X.rack X.status ≤ X.rack.m → (p p' : ℕ) → T (fits X.rack p) → T (fits X.rack p') → X.status p ≡ Good → X.status p' ≡ Good → answer_of R X p ≡ answer_of R X p'
   unfolding answer_of
   agreement most p p' f f' g g' = go (is_arbitrary (X.status X.sender)) refl
     where
       -- a good card is not an arbitrary sender
-      apart : is_arbitrary (X.status X.sender) ≡ true → (q : ℕ) → X.status q ≡ good → q ≡ X.sender → ⊥
+      apart : is_arbitrary (X.status X.sender) ≡ true → (q : ℕ) → X.status q ≡ Good → q ≡ X.sender → ⊥
       apart a q c e = true≢false (sym a ∙ ap (λ (s : ℕ). is_arbitrary (X.status s)) (sym e) ∙ ap is_arbitrary c)
 
       go : (b : Bool) → is_arbitrary (X.status X.sender) ≡ b → answer_of R X p ≡ answer_of R X p'

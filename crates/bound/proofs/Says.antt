@@ -7,7 +7,7 @@ use lib.Dec.{leb}
 use borrow.Author.Tests.{ltb-true, lt-ltb, leb-true, le-leb}
 use Rattle.settings.specs.Settings.{cards}
 use Rattle.settings.specs.declared.Rack.{Rack}
-use Rattle.exchange.specs.Exchange.{Status}
+use Rattle.exchange.specs.declared.Status.{Status}
 use Rattle.bound.specs.Bound.{arbitraries, symmetrics, manifests, enough, bounded}
 
 -- n > 2a + 2s + c + m

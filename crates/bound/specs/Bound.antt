@@ -6,26 +6,28 @@ use Rattle.ground.specs.Answer.{Answer, answer}
 use Rattle.ground.specs.Lists.{count}
 use Rattle.settings.specs.Settings.{most_cards, cards, fits, rack_checks}
 use Rattle.settings.specs.declared.Rack.{Rack}
-use Rattle.exchange.specs.Exchange.{Status, good, arbitrary, symmetric, manifest, statuses_of}
+use Rattle.exchange.specs.declared.Status.{Status}
+use Rattle.exchange.specs.declared.Status.TheVariants.{Good, Arbitrary, Symmetric, Manifest}
+use Rattle.exchange.specs.Exchange.{statuses_of}
 use Rattle.exchange.specs.Asked.{statuses_bad}
 
 abbrev pub is_arbitrary : Status → Bool
-is_arbitrary good = false
-is_arbitrary arbitrary = true
-is_arbitrary symmetric = false
-is_arbitrary manifest = false
+is_arbitrary Good = false
+is_arbitrary Arbitrary = true
+is_arbitrary Symmetric = false
+is_arbitrary Manifest = false
 
 abbrev pub is_symmetric : Status → Bool
-is_symmetric good = false
-is_symmetric arbitrary = false
-is_symmetric symmetric = true
-is_symmetric manifest = false
+is_symmetric Good = false
+is_symmetric Arbitrary = false
+is_symmetric Symmetric = true
+is_symmetric Manifest = false
 
 abbrev pub is_manifest : Status → Bool
-is_manifest good = false
-is_manifest arbitrary = false
-is_manifest symmetric = false
-is_manifest manifest = true
+is_manifest Good = false
+is_manifest Arbitrary = false
+is_manifest Symmetric = false
+is_manifest Manifest = true
 
 -- how many cards of the rack have a status of this kind
 abbrev pub those : Rack → (ℕ → Status) → (Status → Bool) → ℕ

@@ -32,7 +32,8 @@ use Rattle.book.specs.Asked.{held_asked}
 use Rattle.entering.specs.Run.{left_at, words_left}
 use Rattle.arrivals.specs.Run.{Arrival, entries_of, open_arrived}
 use Rattle.arrivals.proofs.Runs.{held_after_arrivals}
-use Rattle.exchange.specs.Exchange.{good, symmetric, manifest, status_of, statuses_of, Exchange, exchange, settings_for, dealt, answer_of}
+use Rattle.exchange.specs.declared.Status.TheVariants as Status
+use Rattle.exchange.specs.Exchange.{status_of, statuses_of, Exchange, exchange, settings_for, dealt, answer_of}
 use Rattle.exchange.specs.Asked.{inputs_long}
 use Rattle.exchange.proofs.Asking.{values_asked}
 use Rattle.exchange.proofs.Dealing.{answer_from}
@@ -99,13 +100,13 @@ module _ (turn : Turn) (x : ℤ) (statuses : List ℕ) (words : List ℤ) where
     demand : Demand2 X
     demand = demand_2 X (record { ten = settled.turn.rack.few; three = settled.turn.rack.deep; sends = settled.turn.sender })
 
-    pub tells_value : 2 * a X + 2 * s X + c X + m X < n X → statuses_of statuses turn.t ≡ good → w ≡ x
+    pub tells_value : 2 * a X + 2 * s X + c X + m X < n X → statuses_of statuses turn.t ≡ Status.Good → w ≡ x
     tells_value e q = sym answers ∙ demand.sender_good (demand.enough_says.1 e) q ordinary p card
 
-    pub tells_read : 2 * a X + 2 * s X + c X + m X < n X → statuses_of statuses turn.t ≡ symmetric → w ≡ read_at 0 (at words 0)
+    pub tells_read : 2 * a X + 2 * s X + c X + m X < n X → statuses_of statuses turn.t ≡ Status.Symmetric → w ≡ read_at 0 (at words 0)
     tells_read e q = sym answers ∙ demand.sender_symmetric (demand.enough_says.1 e) q p card
 
-    pub tells_missing : 2 * a X + 2 * s X + c X + m X < n X → statuses_of statuses turn.t ≡ manifest → w ≡ E
+    pub tells_missing : 2 * a X + 2 * s X + c X + m X < n X → statuses_of statuses turn.t ≡ Status.Manifest → w ≡ E
     tells_missing e q = sym answers ∙ demand.sender_manifest (demand.enough_says.1 e) q p card
 
     -- ---- the other calls for answers

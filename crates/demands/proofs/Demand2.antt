@@ -26,7 +26,8 @@ use Rattle.frames.specs.Asked.{of_result, read_asked, write_asked}
 use Rattle.frames.specs.declared.Frame.{Frame}
 use Rattle.frames.proofs.Round as round
 use Rattle.arrivals.specs.Run.{Arrival, entries_of, open_arrived}
-use Rattle.exchange.specs.Exchange.{good, symmetric, manifest, statuses_of, exchange, dealt}
+use Rattle.exchange.specs.declared.Status.TheVariants.{Good, Symmetric, Manifest}
+use Rattle.exchange.specs.Exchange.{statuses_of, exchange, dealt}
 use Rattle.bench.specs.Asked.{answer_for_asked, answers_asked}
 use Rattle.dealing.specs.Asked.{fill_asked}
 use Rattle.bound.specs.Bound.{of_result, bound_asked}
@@ -115,11 +116,11 @@ pub record Demand2 (turn : Turn) (x : ℤ) (statuses : List ℕ) (words : List �
   -- The bound test, where it is not refused, says yes exactly if n > 2a + 2s + c + m and a is at most m.
   pub bound_says : let X = exchange turn x statuses words in (b : Bool) → bound_asked turn.rack statuses ≡ value b → (b ≡ true) ↔ ((2 * a X + 2 * s X + c X + m X < n X) × (a X ≤ m X))
   -- Where n > 2a + 2s + c + m, a good card answers a good sender's value,
-  pub sender_good : let X = exchange turn x statuses words in 2 * a X + 2 * s X + c X + m X < n X → statuses_of statuses turn.t ≡ good → (p : ℕ) (w : ℤ) → Tells turn x statuses words p w → w ≡ x
+  pub sender_good : let X = exchange turn x statuses words in 2 * a X + 2 * s X + c X + m X < n X → statuses_of statuses turn.t ≡ Good → (p : ℕ) (w : ℤ) → Tells turn x statuses words p w → w ≡ x
   -- a symmetric sender's word as read,
-  pub sender_symmetric : let X = exchange turn x statuses words in 2 * a X + 2 * s X + c X + m X < n X → statuses_of statuses turn.t ≡ symmetric → (p : ℕ) (w : ℤ) → Tells turn x statuses words p w → w ≡ read_at 0 (at words 0)
+  pub sender_symmetric : let X = exchange turn x statuses words in 2 * a X + 2 * s X + c X + m X < n X → statuses_of statuses turn.t ≡ Symmetric → (p : ℕ) (w : ℤ) → Tells turn x statuses words p w → w ≡ read_at 0 (at words 0)
   -- and E for a manifest one.
-  pub sender_manifest : let X = exchange turn x statuses words in 2 * a X + 2 * s X + c X + m X < n X → statuses_of statuses turn.t ≡ manifest → (p : ℕ) (w : ℤ) → Tells turn x statuses words p w → w ≡ E
+  pub sender_manifest : let X = exchange turn x statuses words in 2 * a X + 2 * s X + c X + m X < n X → statuses_of statuses turn.t ≡ Manifest → (p : ℕ) (w : ℤ) → Tells turn x statuses words p w → w ≡ E
   -- If also a is at most m, any two good cards give the same answer.
   pub agree : let X = exchange turn x statuses words in 2 * a X + 2 * s X + c X + m X < n X → a X ≤ m X → (p q : ℕ) (w v : ℤ) → Tells turn x statuses words p w → Tells turn x statuses words q v → w ≡ v
   -- All answers, where they are not refused, have each card's in its place,

@@ -21,7 +21,8 @@ use Rattle.vote.specs.Vote.{rule_of}
 use Rattle.book.specs.Asked.{held_asked}
 use Rattle.entering.specs.Run.{left_at}
 use Rattle.arrivals.specs.Run.{entries_of}
-use Rattle.exchange.specs.Exchange.{good, statuses_of, dealt}
+use Rattle.exchange.specs.declared.Status.TheVariants as Status
+use Rattle.exchange.specs.Exchange.{statuses_of, dealt}
 use Rattle.bound.specs.Bound.{arbitraries, symmetrics, manifests}
 use Rattle.agreement.proofs.Demand2.{GoodCard, Demand2, demand_2}
 use Rattle.books.specs.Books.{books_words, book_from}
@@ -86,13 +87,13 @@ module _ (rack : Rack) (statuses : List ℕ) (cs : List Call) where
   pub record Good (p : ℕ) : Type 0 where
     pub ten : p < 10
     pub card : T (fits rack p)
-    pub is_good : statuses_of statuses p ≡ good
+    pub is_good : statuses_of statuses p ≡ Status.Good
 
   pub record Outcome : Type 0 where
     -- Within the bound the columns of two good cards are equal, in every row.
     pub columns : Enough → arbitraries rack (statuses_of statuses) ≤ rack.m → (t p q : ℕ) → t < 10 → Good p → Good q → told t p ≡ told t q
     -- Where n > 2a + 2s + c + m, a good sender's value, that of its last exchange, stands in each good column of its row.
-    pub sender_good : Enough → (t : ℕ) → t < 10 → statuses_of statuses t ≡ good → (c : Call) → last_for rack statuses t cs ≡ some c → (p : ℕ) → Good p → told t p ≡ c.value
+    pub sender_good : Enough → (t : ℕ) → t < 10 → statuses_of statuses t ≡ Status.Good → (c : Call) → last_for rack statuses t cs ≡ some c → (p : ℕ) → Good p → told t p ≡ c.value
     -- E stands where the sender is n or more, where the card is, and in a row that no exchange has set.
     pub no_sender : (t p : ℕ) → t < 10 → p < 10 → fits rack t ≡ false → told t p ≡ E
     pub no_card : (t p : ℕ) → t < 10 → p < 10 → fits rack p ≡ false → told t p ≡ E

@@ -9,7 +9,9 @@ use Rattle.paths.specs.Asked.{slot_asked, above_asked}
 use Rattle.entering.specs.Accepted.{leaves}
 use Rattle.ages.specs.Ages.{age_of, class_of, class_number}
 use Rattle.omh.specs.Numbers.{number_of}
-use Rattle.exchange.specs.Exchange.{Status, good, arbitrary, manifest, Exchange, answer_of}
+use Rattle.exchange.specs.declared.Status.{Status}
+use Rattle.exchange.specs.declared.Status.TheVariants.{Good, Arbitrary, Manifest}
+use Rattle.exchange.specs.Exchange.{Exchange, answer_of}
 
 pub record Case : Type 0 where
   pub given : ℤ
@@ -40,14 +42,14 @@ one_round n status tabled =
 
 -- n 5: sender 0 manifest, card 4 arbitrary telling 1, 2, 3 the words 11, 12, 13
 abbrev pub five_statuses : ℕ → Status
-five_statuses q = cond (eqb q 0) manifest (cond (eqb q 4) arbitrary good)
+five_statuses q = cond (eqb q 0) Manifest (cond (eqb q 4) Arbitrary Good)
 
 abbrev pub five_cards : Exchange
 five_cards = one_round 5 five_statuses (one_row 5 (pos 11) (pos 12) (pos 13))
 
 -- n 4: sender 0 arbitrary, sending a, b, c
 abbrev pub four_statuses : ℕ → Status
-four_statuses q = cond (eqb q 0) arbitrary good
+four_statuses q = cond (eqb q 0) Arbitrary Good
 
 abbrev pub four_cards : ℤ → ℤ → ℤ → Exchange
 four_cards a b c = one_round 4 four_statuses (one_row 0 a b c)

@@ -10,7 +10,6 @@ use lib.Dec.{T, eqb}
 use lib.IntN.{ℤ, pos}
 use Rattle.ground.specs.Lists.{at}
 use Rattle.ground.proofs.Lists.{at_table}
-use Rattle.words.specs.Word.{E}
 use Rattle.words.specs.Rule.{Rule}
 use Rattle.settings.specs.Settings.{slots}
 use Rattle.paths.specs.Slots.{below, above, last_relay, level, live}
@@ -18,32 +17,11 @@ use Rattle.paths.proofs.Levels.{level_pos, level-above, above-below, last_relay-
 use Rattle.paths.proofs.Live.{live-slot, live_zero}
 use Rattle.vote.specs.Vote.{vote}
 use Rattle.vote.proofs.Votes.{vote-live}
-use Rattle.exchange.specs.Exchange.{Exchange, Status, status_of, settings_for, sent, dealt_at, dealt, received, answer_of}
+use Rattle.exchange.specs.declared.Status.{Status}
+use Rattle.exchange.specs.Exchange.{Exchange, status_of, settings_for, sent, dealt_at, dealt, received, answer_of}
 use Rattle.exchange.specs.Sending.{Sends}
 
 -- ---- by the status byte
-
-module _ (s : ℕ) (word own first : ℤ) where
-  pub sent_good : s ≡ 0 → word ≡ sent (status_of s) word own first
-  unfolding status_of sent
-  sent_good e = rw e
-
-  pub sent_arbitrary : s ≡ 1 → own ≡ sent (status_of s) word own first
-  unfolding status_of sent
-  sent_arbitrary e = rw e
-
-  pub sent_symmetric : s ≡ 2 → first ≡ sent (status_of s) word own first
-  unfolding status_of sent
-  sent_symmetric e = rw e
-
-  pub sent_manifest : (s ≡ 0 → ⊥) → (s ≡ 1 → ⊥) → (s ≡ 2 → ⊥) → E ≡ sent (status_of s) word own first
-  sent_manifest a b c = go s a b c
-    where
-      go : (s : ℕ) → (s ≡ 0 → ⊥) → (s ≡ 1 → ⊥) → (s ≡ 2 → ⊥) → E ≡ sent (status_of s) word own first
-      go zero a b c = absurd (a refl)
-      go (suc zero) a b c = absurd (b refl)
-      go (suc (suc zero)) a b c = absurd (c refl)
-      go (suc (suc (suc s))) a b c = unfold status_of sent in refl
 
 pub sent_as : (s : ℕ) {v w own own' first first' : ℤ} → v ≡ w → own ≡ own' → first ≡ first' → sent (status_of s) v own first ≡ sent (status_of s) w own' first'
 sent_as s e f g = rw (e, f, g)

@@ -1,5 +1,4 @@
 -- Each public function's contract fixes its answer: two answers that it allows are equal.
-use Prim.Native.Nat.{ℕ}
 use mathlib.Core.Path.{sym, ◌∙◌}
 use mathlib.Core.Bool.{Bool}
 use lib.IntN.{ℤ}

@@ -9,16 +9,15 @@ use Rattle.settings.specs.declared.Turn.{Turn}
 use Rattle.settings.specs.declared.Settings.{Settings}
 use Rattle.paths.specs.Slots.{above, last_relay, level}
 use Rattle.vote.specs.Vote.{vote}
-
-pub data Status : Type 0 where
-  good arbitrary symmetric manifest : Status
+use Rattle.exchange.specs.declared.Status.{Status}
+use Rattle.exchange.specs.declared.Status.TheVariants.{Good, Arbitrary, Symmetric, Manifest}
 
 -- 0 good, 1 arbitrary, 2 symmetric, 3 manifest
 unfoldable pub status_of : ℕ → Status
-status_of zero = good
-status_of (suc zero) = arbitrary
-status_of (suc (suc zero)) = symmetric
-status_of (suc (suc (suc k))) = manifest
+status_of zero = Good
+status_of (suc zero) = Arbitrary
+status_of (suc (suc zero)) = Symmetric
+status_of (suc (suc (suc k))) = Manifest
 
 -- n and m, t, the sender's value, each card's status, and the table's word for slot k and receiver p
 pub record Exchange : Type 0 where
@@ -47,10 +46,10 @@ settings_for X p = record { rack = X.rack; t = X.sender; p = p }
 
 -- what p receives from a card of this status: what a good card sends; the table's word for p; that for receiver 0; E
 unfoldable pub sent : Status → ℤ → ℤ → ℤ → ℤ
-sent good word own first = word
-sent arbitrary word own first = own
-sent symmetric word own first = first
-sent manifest word own first = E
+sent Good word own first = word
+sent Arbitrary word own first = own
+sent Symmetric word own first = first
+sent Manifest word own first = E
 
 -- The word that p receives on the path of level d at slot k. A good card sends x at level 0, and above the wrapped reading of what it received one slot up.
 unfoldable pub dealt_at : Rule → Exchange → ℕ → ℕ → ℕ → ℤ

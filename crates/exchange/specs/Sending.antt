@@ -2,7 +2,8 @@
 use Rattle.std.specs.Prelude.{ℕ, ◌+◌, ◌*◌, ◌<◌, ◌≡◌, List, ℤ, length}
 use Rattle.ground.specs.Lists.{at}
 use Rattle.words.specs.Rule.{Rule}
-use Rattle.exchange.specs.Exchange.{Status, status_of, Exchange, sent, dealt}
+use Rattle.exchange.specs.declared.Status.{Status}
+use Rattle.exchange.specs.Exchange.{status_of, Exchange, sent, dealt}
 use Rattle.exchange.specs.Asked.{table_words}
 
 -- what p receives at slot k from a card of this status byte, which sends the word if it is good

@@ -9,9 +9,8 @@ ghost use Rattle.words.specs.Word.{kind_of, read_at, wrapped};
 ghost use Rattle.exchange.specs.Exchange.{status_of, sent};
 ghost use Rattle.exchange.specs.Asked.{inputs_long, status_bad, statuses_bad, is_ordinary, status_checks, value_checks, card_checks};
 
-use ground::bytes;
-use ground::refusal;
 use ground::refusal::Refusal;
+use ground::{bytes, refusal};
 use settings::{Rack, Settings};
 use words::{E, Kind};
 
@@ -21,7 +20,31 @@ pub const TABLE: usize = Settings::SLOTS * Settings::MAX_CARDS;
 // The greatest status byte.
 const LAST_STATUS: u8 = 3;
 
+// What a card is on the bench.
+#[derive(Clone, Copy, Debug, PartialEq, Eq)]
+pub enum Status {
+    Good,
+    Arbitrary,
+    Symmetric,
+    Manifest,
+}
+
+impl From<u8> for Status {
+    ghost from_gives = { λ byte status. status ≡ status_of byte };
+
+    #[tactic(auto, unfolding(crate::specs::Exchange::status_of))]
+    fn from(byte: u8) -> Status {
+        match byte {
+            0 => Status::Good,
+            1 => Status::Arbitrary,
+            2 => Status::Symmetric,
+            _ => Status::Manifest,
+        }
+    }
+}
+
 // Whether a status byte is over 3, or not 0 where no card fits.
+#[tactic(auto, unfolding(crate::specs::Asked::status_bad))]
 fn status_bad(rack: Rack, statuses: &[u8], q: usize) -> bool
     ensures { result ≡ status_bad rack statuses.now q }
 {
@@ -80,14 +103,15 @@ pub fn card_refused(s: Settings, x: i32, statuses: &[u8], long: bool) -> Result<
 }
 
 // What a card receives from one of this status, which sends `word` if it is good; the table has two words for it, the receiver's own and receiver 0's.
+#[tactic(auto, unfolding(crate::specs::Exchange::sent))]
 pub fn sent_by(status: u8, word: i32, own: i32, first: i32) -> i32
     ensures { result ≡ sent (status_of status) word own first }
 {
-    match status {
-        0 => word,
-        1 => own,
-        2 => first,
-        _ => E,
+    match Status::from(status) {
+        Status::Good => word,
+        Status::Arbitrary => own,
+        Status::Symmetric => first,
+        Status::Manifest => E,
     }
 }
 
@@ -99,10 +123,11 @@ pub fn relayed(level: usize, word: i32) -> i32
 }
 
 // What a relay of status `by` sends on, if it is good, of what it received at this level from a card of this status. All but an arbitrary card send one word to all: of that one `told` is sent on.
+#[tactic(auto, using(crate::proofs::Statuses::arbitrary_is, crate::proofs::Statuses::good_is))]
 pub fn sent_on(status: u8, by: u8, level: usize, received: i32, told: i32) -> i32
     ensures { result ≡ cond (eqb status 1 && eqb by 0) (wrapped (read_at level received)) told }
 {
-    if (status == 1) & (by == 0) {
+    if (Status::from(status) == Status::Arbitrary) & (Status::from(by) == Status::Good) {
         relayed(level, received)
     } else {
         told
