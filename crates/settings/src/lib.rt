@@ -34,7 +34,6 @@ pub struct Settings {
     pub p: usize,
 }
 
-
 impl Settings {
     pub const MAX_CARDS: usize = 10;
 
