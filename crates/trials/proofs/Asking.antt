@@ -22,7 +22,7 @@ use Rattle.files.specs.File.{turn_in, statuses, value_in, exceptions, head_of, a
 use Rattle.files.specs.declared.Head.{Head}
 use Rattle.files.proofs.Told.{length-told, length-missing}
 use Rattle.files.proofs.Good.{file_good}
-use Rattle.trials.specs.Storing.{Accepted}
+use Rattle.trials.specs.Accepting.{Accepted}
 
 module _ (file : List ℕ) where
   -- ---- the file's reading

@@ -1,4 +1,3 @@
-pub mod Storing
 pub mod Lines
 pub mod Text
 pub mod Asking

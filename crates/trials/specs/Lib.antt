@@ -1,2 +1,2 @@
+pub mod Accepting
 pub mod Listing
-pub mod Storing

@@ -1,5 +1,6 @@
 -- Document 01, 'Listing program': the text that it prints, as ASCII bytes.
 use Rattle.std.specs.Prelude.{ℕ, zero, suc, ◌+◌, Bool, true, false, cond, List, [], ◌∷◌, ◌++◌, ℤ, pos, get_or}
+use Rattle.ground.specs.Lists.{at}
 use Rattle.words.specs.Word.{E}
 use Rattle.words.specs.Majority.{same}
 use Rattle.text.specs.Decimal.{decimal_of}
@@ -22,6 +23,10 @@ answer_text w = cond (same E w) (45 ∷ []) (decimal_of w)
 -- card, status, answer, one blank between
 unfoldable pub line_of : ℕ → ℕ → ℤ → List ℕ
 line_of p status w = ((48 + p) ∷ 32 ∷ (48 + status) ∷ 32 ∷ []) ++ answer_text w ++ ending
+
+-- the line of card p, by the statuses and the answers
+abbrev pub line_at : List ℕ → List ℤ → ℕ → List ℕ
+line_at statuses answers p = line_of p (get_or statuses p 0) (at answers p)
 
 -- a line to each of the first c cards that passes, in rising order
 unfoldable pub lines : (ℕ → Bool) → (ℕ → List ℕ) → ℕ → List ℕ
