@@ -11,8 +11,10 @@ ghost use Rattle.vote.specs.Members.{member_vote, members_votes, Asked, Whole};
 ghost use Rattle.vote.specs.Asked.{words_checks, vote_asked, answer_asked};
 
 use ground::{Told, refusal};
+use reports::Reports;
 use settings::Settings;
-use words::E;
+
+pub mod reports;
 
 // An own report, and one from each of the ten cards.
 pub const REPORTS: usize = Settings::MAX_CARDS + 1;
@@ -49,20 +51,16 @@ fn over_members(
     requires { Asked words.now members.old (left + 1) d k }
     ensures { (result ≡ decided omh own (members_votes omh words.now members.old left d k 10)) × (members.new ≡ members.old) }
 {
-    let mut reports = [E; REPORTS];
-    let wrapped = words::wrap(own);
-    reports[0] = wrapped;
-    let mut count = words::weight(wrapped);
+    let mut reports = Reports::begin(own);
     for q in 0..Settings::MAX_CARDS {
         if members[q] {
             members[q] = false;
             let vote = instance(words, members, left, d + 1, 10 * k + 1 + q);
             members[q] = true;
-            reports[count] = vote;
-            count += words::weight(vote);
+            reports.add(vote);
         }
     }
-    words::decide(&reports[..count])
+    reports.decide()
 }
 
 // The vote at a live slot, of settings that are not refused; `members` are the cards that may lengthen its path.
