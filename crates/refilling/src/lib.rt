@@ -14,8 +14,7 @@ ghost use Rattle.refilling.specs.RefillOrder.{book_in, Fills, Refills, Refilling
 
 use ground::Done;
 use settings::Settings;
-use vote::REPORTS;
-use words::E;
+use vote::reports::Reports;
 
 pub fn refill(s: Settings, words: &[i32], votes: &mut [i32]) -> Done
     ensures { outcome (of_done result) (book_of words.now votes.new) ≡ refill_asked s (book_of words.now votes.old) }
@@ -101,20 +100,16 @@ fn refill_members(
     ensures refilling_below { RefillingBelow omh (book_in words.now list.old first) members.old left d k own result (book_in words.now list.new first) }
     ensures members_unchanged { members.new ≡ members.old }
 {
-    let mut reports = [E; REPORTS];
-    let wrapped = words::wrap(own);
-    reports[0] = wrapped;
-    let mut count = words::weight(wrapped);
+    let mut reports = Reports::begin(own);
     for q in 0..Settings::MAX_CARDS {
         if members[q] {
             members[q] = false;
             let vote = refill_from(words, list, first, members, left, d + 1, 10 * k + 1 + q);
             members[q] = true;
-            reports[count] = vote;
-            count += words::weight(vote);
+            reports.add(vote);
         }
     }
-    words::decide(&reports[..count])
+    reports.decide()
 }
 
 // The same where no round is left for the longer paths: the vote of each is its reading.
@@ -130,18 +125,14 @@ fn refill_last(
     requires { Fills (book_in words.now list.old first) members.now 1 d k }
     ensures { RefillingBelow omh (book_in words.now list.old first) members.now 0 d k own result (book_in words.now list.new first) }
 {
-    let mut reports = [E; REPORTS];
-    let wrapped = words::wrap(own);
-    reports[0] = wrapped;
-    let mut count = words::weight(wrapped);
+    let mut reports = Reports::begin(own);
     for q in 0..Settings::MAX_CARDS {
         if members[q] {
             let slot = 10 * k + 1 + q;
             let vote = words::read_at(d + 1, word_at(words, list, first, slot));
             list[first + slot] = vote;
-            reports[count] = vote;
-            count += words::weight(vote);
+            reports.add(vote);
         }
     }
-    words::decide(&reports[..count])
+    reports.decide()
 }
