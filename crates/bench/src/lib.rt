@@ -60,7 +60,7 @@ fn vote_dealt(
     )
 }
 
-// Decides the vote from the own reading and the votes of the longer paths, by each member in turn. A struck report is left out: the next takes its place.
+// Decides the vote from the own reading and the votes of the longer paths, by each member in turn.
 #[cycle(over_dealt_vote_dealt)]
 fn over_dealt(
     statuses: &[u8],

@@ -25,7 +25,7 @@ pub const CONTRADICTED: i32 = 1_000_000_009;
 // The most slots on a way up: one for each round of relay, and the sender's.
 const LEVELS: usize = Settings::MAX_ROUNDS + 1;
 
-// Decides the vote at slot k from its own reading and the held votes one relay longer, by each member and read at level d. A struck report is left out: the next takes its place.
+// Decides the vote at slot k from its own reading and the held votes one relay longer, by each member and read at level d.
 fn over_held(
     votes: &[i32],
     members: &[bool; Settings::MAX_CARDS],

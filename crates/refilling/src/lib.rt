@@ -84,7 +84,7 @@ fn refill_from(
     vote
 }
 
-// Puts the votes of the longer paths, by each member in turn, in their places, and decides the vote from them and the own reading. A struck report is left out: the next takes its place.
+// Puts the votes of the longer paths, by each member in turn, in their places, and decides the vote from them and the own reading.
 #[cycle(refill_from_refill_members)]
 fn refill_members(
     words: &[i32],

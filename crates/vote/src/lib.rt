@@ -16,9 +16,6 @@ use settings::Settings;
 
 pub mod reports;
 
-// An own report, and one from each of the ten cards.
-pub const REPORTS: usize = Settings::MAX_CARDS + 1;
-
 // The vote at slot k of level d with so many rounds left; `members` are the cards that may still relay.
 #[cycle(instance_over_members)]
 fn instance(
@@ -38,7 +35,7 @@ fn instance(
     over_members(words, members, own, left - 1, d, k)
 }
 
-// Decides the vote from the own reading and the votes of the longer paths, by each member in turn. A struck report is left out: the next takes its place.
+// Decides the vote from the own reading and the votes of the longer paths, by each member in turn.
 #[cycle(instance_over_members)]
 fn over_members(
     words: &[i32],
