@@ -15,8 +15,7 @@ ghost use Rattle.bench.specs.Asked.{answers_of, answer_for_asked, answers_asked}
 
 use ground::refusal::Refusal;
 use settings::{Settings, Turn};
-use vote::REPORTS;
-use words::E;
+use vote::reports::Reports;
 
 // What card p receives at slot k from a card of this status, which sends `word` if it is good.
 fn sent_to(status: u8, word: i32, table: &[i32], k: usize, p: usize) -> i32
@@ -61,7 +60,7 @@ fn vote_dealt(
     )
 }
 
-// Decides the vote from the own reading and the votes of the longer paths, by each member in turn. A struck report is left out: the next takes its place.
+// Decides the vote from the own reading and the votes of the longer paths, by each member in turn.
 #[cycle(over_dealt_vote_dealt)]
 fn over_dealt(
     statuses: &[u8],
@@ -79,10 +78,8 @@ fn over_dealt(
     requires own_value { own ≡ omh.read d (sent_to status word table.now k p) }
     ensures { (result ≡ decided omh own (dealt_votes omh statuses.now table.now p members.old left d k status word 10)) × (members.new ≡ members.old) }
 {
-    let mut reports = [E; REPORTS];
     let wrapped = words::wrap(own);
-    reports[0] = wrapped;
-    let mut count = words::weight(wrapped);
+    let mut reports = Reports::begin(own);
     for q in 0..Settings::MAX_CARDS {
         if members[q] {
             members[q] = false;
@@ -102,11 +99,10 @@ fn over_dealt(
                 sends,
             );
             members[q] = true;
-            reports[count] = vote;
-            count += words::weight(vote);
+            reports.add(vote);
         }
     }
-    words::decide(&reports[..count])
+    reports.decide()
 }
 
 // The answer of the own card, of settings that are not refused.

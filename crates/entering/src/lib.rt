@@ -16,7 +16,7 @@ ghost use Rattle.entering.specs.Remaking.{held_votes, member_remade, Remakes, En
 use ground::refusal;
 use ground::refusal::Refusal;
 use settings::Settings;
-use vote::REPORTS;
+use vote::reports::Reports;
 use words::E;
 
 // A word for a slot.
@@ -29,7 +29,7 @@ pub struct Entry {
 // What stands where two different words came: a bad word, which reads as E.
 pub const CONTRADICTED: i32 = 1_000_000_009;
 
-// Decides the vote at slot k from its own reading and the held votes one relay longer, by each member and read at level d. A struck report is left out: the next takes its place.
+// Decides the vote at slot k from its own reading and the held votes one relay longer, by each member and read at level d.
 fn over_held(
     votes: &[i32],
     members: &[bool; Settings::MAX_CARDS],
@@ -40,18 +40,14 @@ fn over_held(
     requires { (length votes.now ≡ slots) × (length members.now ≡ 10) × (k < 111) }
     ensures { result ≡ decided omh own (held_votes omh votes.now members.now d k 10) }
 {
-    let mut reports = [E; REPORTS];
-    let wrapped = words::wrap(own);
-    reports[0] = wrapped;
-    let mut count = words::weight(wrapped);
+    let mut reports = Reports::begin(own);
     for q in 0..Settings::MAX_CARDS {
         if members[q] {
             let vote = words::read_at(d, votes[10 * k + 1 + q]);
-            reports[count] = vote;
-            count += words::weight(vote);
+            reports.add(vote);
         }
     }
-    words::decide(&reports[..count])
+    reports.decide()
 }
 
 // The vote at slot k of level d, made again from its own word and the other held votes; `members` are the cards that may lengthen its path, and with no rounds left it is the reading.

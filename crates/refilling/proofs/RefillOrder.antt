@@ -2,7 +2,7 @@
 use Prim.Native.Nat.{ℕ, ◌+◌, ◌-◌, ◌≤◌, ◌<◌}
 use mathlib.Core.Path.{◌≡◌, refl, sym, ap, ap₂, ◌∙◌}
 use mathlib.Core.Bool.{Bool, true, false, cond}
-use mathlib.Core.List.{List}
+use mathlib.Core.List.{List, [], ◌∷◌, ◌++◌}
 use native.Mathlib.Omega.{arith}
 use lib.Dec.{eqb}
 use lib.IntN.{ℤ, pos}
@@ -10,6 +10,7 @@ use lib.ListN.{length, set, take, drop, length-set, length-drop, length-take}
 use lib.Seq.{take-set-le, drop-set-add, get_or-take}
 use borrow.Author.Tests.{eq-eqb, ne_eqb}
 use Rattle.ground.specs.Lists.{at}
+use Rattle.words.specs.Majority.{kept}
 use Rattle.words.specs.Rule.{Rule}
 use Rattle.words.specs.Counted.{majority_of}
 use Rattle.paths.specs.Slots.{below}
@@ -18,7 +19,8 @@ use Rattle.paths.proofs.Handed.{room_less, room_most}
 use Rattle.paths.proofs.Walk.{put_last, put_more, through_yes, through_no, through-all, length_put, length-below}
 use Rattle.vote.specs.Vote.{decided}
 use Rattle.vote.specs.Members.{member_vote, members_votes}
-use Rattle.vote.proofs.Gather.{Reporting, report_first, report_more, report_same, decides, vote-last, vote_more}
+use Rattle.vote.specs.Reports.{most_reports}
+use Rattle.vote.proofs.Gather.{Gathered, gather_none, gather_more, gather_same, gather_decides, vote-last, vote_more}
 use Rattle.book.specs.Book.{Book, book_of}
 use Rattle.refilling.specs.RefillOrder.{book_in, Fills, Refilling, RefillingBelow}
 
@@ -76,15 +78,15 @@ module _ (R : Rule) (words list : List ℤ) (first : ℕ) (cards : List Bool) (r
 -- ---- the loop over the members
 
 -- the own report and those of the cards before q, and their votes in their places
-pub record Placing (R : Rule) (words before : List ℤ) (first : ℕ) (cards : List Bool) (r d k : ℕ) (own : ℤ) (q : ℕ) (list reports : List ℤ) (count : ℕ) : Type 0 where
-  pub reported : Reporting R.struck (may cards) (λ q. member_vote R (book_in words before first).words (set cards q false) r (d + 1) (below k q)) own q reports count
+pub record Placing (R : Rule) (words before : List ℤ) (first : ℕ) (cards : List Bool) (r d k : ℕ) (own : ℤ) (q : ℕ) (list reports : List ℤ) : Type 0 where
+  pub reported : Gathered R (may cards) (λ q. member_vote R (book_in words before first).words (set cards q false) r (d + 1) (below k q)) own q reports
   pub placed : book_in words list first ≡ book_of (book_in words before first).words (put_below (member_vote R (book_in words before first).words) cards r d k q (drop first before))
 
-pub place_first : (R : Rule) (words list : List ℤ) (first : ℕ) (cards : List Bool) (r d k : ℕ) (reports : List ℤ) {count : ℕ} → length reports ≡ 11 → count ≡ cond (R.struck (at reports 0)) 0 1 → Placing R words list first cards r d k (at reports 0) 0 list reports count
+pub place_first : (R : Rule) (words list : List ℤ) (first : ℕ) (cards : List Bool) (r d k : ℕ) (own : ℤ) {reports : List ℤ} → reports ≡ kept R.struck (R.wrap own ∷ []) → Placing R words list first cards r d k own 0 list reports
 unfolding through
-place_first R words list first cards r d k reports e w = record { reported = report_first _ _ _ reports e w; placed = refl }
+place_first R words list first cards r d k own e = record { reported = gather_none R _ _ own e; placed = refl }
 
-module _ {R : Rule} {words before : List ℤ} {first : ℕ} {cards : List Bool} {r d k : ℕ} {own : ℤ} {q : ℕ} {list reports : List ℤ} {count : ℕ} (p : Placing R words before first cards r d k own q list reports count) where
+module _ {R : Rule} {words before : List ℤ} {first : ℕ} {cards : List Bool} {r d k : ℕ} {own : ℤ} {q : ℕ} {list reports : List ℤ} (p : Placing R words before first cards r d k own q list reports) where
   abbrev old : Book
   old = book_in words before first
 
@@ -106,28 +108,28 @@ module _ {R : Rule} {words before : List ℤ} {first : ℕ} {cards : List Bool} 
           votes_whole = whole ∙ f.votes_whole;
         }
 
-  module _ (h : q < 10) {members : List Bool} (same : members ≡ cards) {list' reports' : List ℤ} {count' : ℕ} where
+  module _ (h : q < 10) {members : List Bool} (same : members ≡ cards) {list' reports' : List ℤ} where
     -- one card more, and one that is no member
-    pub place_more : may members q ≡ true → {told v : ℤ} {after : List ℤ} → list' ≡ after → Refilling R (book_in words list first) (set members q false) r (d + 1) (below k q) told (book_in words after first) → v ≡ told → reports' ≡ set reports count v → count' ≡ count + cond (R.struck v) 0 1 → Placing R words before first cards r d k own (q + 1) list' reports' count'
-    place_more t g f e a b =
+    pub place_more : may members q ≡ true → {told v : ℤ} {after : List ℤ} → list' ≡ after → Refilling R (book_in words list first) (set members q false) r (d + 1) (below k q) told (book_in words after first) → v ≡ told → reports' ≡ take most_reports (reports ++ kept R.struck (v ∷ [])) → Placing R words before first cards r d k own (q + 1) list' reports'
+    place_more t g f e a =
         let one = rw (same, p.placed) at f in
         let member = rw same at t in
         rw g (record {
-          reported = report_more p.reported h member (e ∙ one.vote) a b;
+          reported = gather_more p.reported h member (e ∙ one.vote) a;
           placed = one.book ∙ ap (book_of old.words) (through_yes (may cards) _ old.votes q member refl);
         })
 
-    pub place_same : may members q ≡ false → list' ≡ list → reports' ≡ reports → count' ≡ count → Placing R words before first cards r d k own (q + 1) list' reports' count'
-    place_same t g a b =
+    pub place_same : may members q ≡ false → list' ≡ list → reports' ≡ reports → Placing R words before first cards r d k own (q + 1) list' reports'
+    place_same t g a =
         let other = rw same at t in
         rw g (record {
-          reported = report_same p.reported h other a b;
+          reported = gather_same p.reported other a;
           placed = p.placed ∙ ap (book_of old.words) (through_no (may cards) _ old.votes q other refl);
         })
 
   -- what all ten decide
-  pub place_done : {reading v : ℤ} → 10 ≤ q → own ≡ R.wrap reading → v ≡ R.unwrap (majority_of R.struck R.none (length (take count reports)) (take count reports)) → RefillingBelow R old cards r d k reading v (book_in words list first)
-  place_done all e g = record {
-    vote = decides R p.reported all e g;
-    book = p.placed ∙ ap (book_of old.words) (through-all _ _ old.votes q p.reported.upto all refl);
+  pub place_done : q ≤ 10 → 10 ≤ q → {reading v : ℤ} → own ≡ reading → v ≡ R.unwrap (majority_of R.struck R.none (length reports) reports) → RefillingBelow R old cards r d k reading v (book_in words list first)
+  place_done upto all same e = record {
+    vote = gather_decides p.reported upto all same e;
+    book = p.placed ∙ ap (book_of old.words) (through-all _ _ old.votes q upto all refl);
   }

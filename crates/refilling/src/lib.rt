@@ -12,8 +12,7 @@ ghost use Rattle.refilling.specs.RefillOrder.{Fills, Refills, Refilling, Refilli
 
 use ground::refusal::Refusal;
 use settings::Settings;
-use vote::REPORTS;
-use words::E;
+use vote::reports::Reports;
 
 pub fn refill(s: Settings, words: &[i32], votes: &mut [i32]) -> Result<(), Refusal>
     ensures { outcome (of_result result) (book_of words.now votes.new) ≡ refill_asked s (book_of words.now votes.old) }
@@ -68,7 +67,7 @@ fn refill_from(
     vote
 }
 
-// Puts the votes of the longer paths, by each member in turn, in their places, and decides the vote from them and the own reading. A struck report is left out: the next takes its place.
+// Puts the votes of the longer paths, by each member in turn, in their places, and decides the vote from them and the own reading.
 #[cycle(refill_from_refill_members)]
 fn refill_members(
     words: &[i32],
@@ -83,20 +82,16 @@ fn refill_members(
     ensures refilling_below { RefillingBelow omh (book_of words.now votes.old) members.old left d k own result (book_of words.now votes.new) }
     ensures members_unchanged { members.new ≡ members.old }
 {
-    let mut reports = [E; REPORTS];
-    let wrapped = words::wrap(own);
-    reports[0] = wrapped;
-    let mut count = words::weight(wrapped);
+    let mut reports = Reports::begin(own);
     for q in 0..Settings::MAX_CARDS {
         if members[q] {
             members[q] = false;
             let vote = refill_from(words, votes, members, left, d + 1, 10 * k + 1 + q);
             members[q] = true;
-            reports[count] = vote;
-            count += words::weight(vote);
+            reports.add(vote);
         }
     }
-    words::decide(&reports[..count])
+    reports.decide()
 }
 
 // The same where no round is left for the longer paths: the vote of each is its reading.
@@ -111,18 +106,14 @@ fn refill_last(
     requires { Fills (book_of words.now votes.old) members.now 1 d k }
     ensures { RefillingBelow omh (book_of words.now votes.old) members.now 0 d k own result (book_of words.now votes.new) }
 {
-    let mut reports = [E; REPORTS];
-    let wrapped = words::wrap(own);
-    reports[0] = wrapped;
-    let mut count = words::weight(wrapped);
+    let mut reports = Reports::begin(own);
     for q in 0..Settings::MAX_CARDS {
         if members[q] {
             let slot = 10 * k + 1 + q;
             let vote = words::read_at(d + 1, words[slot]);
             votes[slot] = vote;
-            reports[count] = vote;
-            count += words::weight(vote);
+            reports.add(vote);
         }
     }
-    words::decide(&reports[..count])
+    reports.decide()
 }

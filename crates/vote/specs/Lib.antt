@@ -1,3 +1,4 @@
 pub mod Vote
 pub mod Members
+pub mod Reports
 pub mod Asked

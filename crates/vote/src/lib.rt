@@ -12,11 +12,10 @@ ghost use Rattle.vote.specs.Asked.{words_checks, vote_asked, answer_asked};
 
 use ground::refusal;
 use ground::refusal::Refusal;
+use reports::Reports;
 use settings::Settings;
-use words::E;
 
-// An own report, and one from each of the ten cards.
-pub const REPORTS: usize = Settings::MAX_CARDS + 1;
+pub mod reports;
 
 // The vote at slot k of level d with so many rounds left; `members` are the cards that may still relay.
 #[cycle(instance_over_members)]
@@ -37,7 +36,7 @@ fn instance(
     over_members(words, members, own, left - 1, d, k)
 }
 
-// Decides the vote from the own reading and the votes of the longer paths, by each member in turn. A struck report is left out: the next takes its place.
+// Decides the vote from the own reading and the votes of the longer paths, by each member in turn.
 #[cycle(instance_over_members)]
 fn over_members(
     words: &[i32],
@@ -50,20 +49,16 @@ fn over_members(
     requires { Asked words.now members.old (left + 1) d k }
     ensures { (result ≡ decided omh own (members_votes omh words.now members.old left d k 10)) × (members.new ≡ members.old) }
 {
-    let mut reports = [E; REPORTS];
-    let wrapped = words::wrap(own);
-    reports[0] = wrapped;
-    let mut count = words::weight(wrapped);
+    let mut reports = Reports::begin(own);
     for q in 0..Settings::MAX_CARDS {
         if members[q] {
             members[q] = false;
             let vote = instance(words, members, left, d + 1, 10 * k + 1 + q);
             members[q] = true;
-            reports[count] = vote;
-            count += words::weight(vote);
+            reports.add(vote);
         }
     }
-    words::decide(&reports[..count])
+    reports.decide()
 }
 
 // The vote at a live slot, of settings that are not refused; `members` are the cards that may lengthen its path.

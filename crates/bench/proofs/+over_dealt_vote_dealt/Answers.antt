@@ -8,14 +8,13 @@ use borrow.Author.Rules.{sfits_of}
 use lib.Dec.{eqb}
 use lib.IntN.{ℤ}
 use lib.ListN.{length, get_or, length-set, set}
-use lib.Seq.{length-take-le}
 use Rattle.ground.proofs.Bits.{back, back_is}
 use Rattle.words.specs.Word.{read_at, wrapped as wrapped'}
 use Rattle.words.specs.Rule.{omh}
 use Rattle.paths.specs.Slots.{below}
 use Rattle.paths.proofs.Handed.{put_back, room_less, room_most, room_back}
 use Rattle.vote.specs.Vote.{decided}
-use Rattle.vote.proofs.Gather.{inside, report_first, report_more, report_same, weighs, decides}
+use Rattle.vote.proofs.Gather.{gather_none, gather_more, gather_same, gather_decides}
 use Rattle.exchange.specs.Sending.{sent_to}
 use Rattle.exchange.proofs.Dealing.{on_good}
 use Rattle.bench.specs.Dealing.{dealt_vote, dealt_votes}
@@ -39,9 +38,6 @@ vote_dealt-returns-then-left-eq0 t c =
     let a = c.args in
     let vote : ℤ → ℤ = dealt_vote omh a.statuses.now a.table.now a.p a.members.now a.left a.d a.k a.status in
     (vote-last omh _ _ _ _ _ _ _ _ _ (own t (goal.at.vote_dealt-returns-then-left-eq0 t c).After-read_at-own) c.if-left-eq0.true ∙ ap vote (back_is c.ranges.word), refl)
-
-pub vote_dealt-overflow_sub-left : goal.vote_dealt-overflow_sub-left
-vote_dealt-overflow_sub-left t c = omega arith
 
 pub vote_dealt-over_dealt-requires : goal.vote_dealt-over_dealt-requires
 vote_dealt-over_dealt-requires t c =
@@ -71,17 +67,7 @@ vote_dealt-returns t c =
     )
 
 pub over_dealt-loop-q-init : goal.over_dealt-loop-q-init
-over_dealt-loop-q-init t c = (refl, report_first _ _ _ _ refl c.weight-count.ensures)
-
-pub over_dealt-bounds-members-q : goal.over_dealt-bounds-members-q
-over_dealt-bounds-members-q t c = c.loop-q-test.true
-
-pub over_dealt-bounds-members-q-then-members-q : goal.over_dealt-bounds-members-q-then-members-q
-over_dealt-bounds-members-q-then-members-q t c = c.loop-q-test.true
-
-pub over_dealt-bounds-statuses-q : goal.over_dealt-bounds-statuses-q
-over_dealt-bounds-statuses-q t c =
-    omega (arith, c.loop-q-test.true, c.requires.dealing.statuses_long)
+over_dealt-loop-q-init t c = (refl, gather_none omh _ _ _ c.begin-reports.ensures)
 
 -- the slot that is asked about leaves room for the longer path
 
@@ -92,9 +78,6 @@ pub over_dealt-sent_to-received-requires : goal.over_dealt-sent_to-received-requ
 over_dealt-sent_to-received-requires t c =
     let pre = c.requires.dealing in
     (pre.table_long, small t (goal.at.over_dealt-sent_to-received-requires t c).At-loop-q, omega (arith, c.loop-q-test.true, pre.card))
-
-pub over_dealt-overflow_add-d : goal.over_dealt-overflow_add-d
-over_dealt-overflow_add-d t c = omega (arith, c.requires.dealing.deep)
 
 pub over_dealt-overflow_mul-k : goal.over_dealt-overflow_mul-k
 over_dealt-overflow_mul-k t c = omega (arith, small t (goal.at.over_dealt-overflow_mul-k t c).At-loop-q)
@@ -119,26 +102,6 @@ over_dealt-vote_dealt-vote-requires t c =
       },
     )
 
-pub over_dealt-bounds-members-q-then-members-q-2 : goal.over_dealt-bounds-members-q-then-members-q-2
-over_dealt-bounds-members-q-then-members-q-2 t c = c.loop-q-test.true
-
-pub over_dealt-offset_bounds-reports-count : goal.over_dealt-offset_bounds-reports-count
-over_dealt-offset_bounds-reports-count t c = omega (arith, c.loop-q.invariant.1.few)
-
-pub over_dealt-bounds-reports-count : goal.over_dealt-bounds-reports-count
-over_dealt-bounds-reports-count t c = omega (arith, c.loop-q.invariant.1.few)
-
-pub over_dealt-overflow_add-count : goal.over_dealt-overflow_add-count
-over_dealt-overflow_add-count t c =
-    let so_far = c.loop-q.invariant.1 in
-    omega (arith, so_far.few, weighs (omh.struck (back c.vote_dealt-vote.result)) c.weight-count-then-members-q.ensures)
-
-pub over_dealt-overflow_step-q : goal.over_dealt-overflow_step-q
-over_dealt-overflow_step-q t c = omega arith
-
-pub over_dealt-loop-q-smaller : goal.over_dealt-loop-q-smaller
-over_dealt-loop-q-smaller t c = omega arith
-
 -- a good card sends on what it received
 
 sends : (t : ℕ) (c : over_dealt-At-loop-q t) {heard : ℤ} → let a = c.args in let q = c.loop-q.q in let by = get_or a.statuses.now q 0 in heard ≡ sent_to a.status (back a.word) a.table.now a.k q → by ≡ 0 → cond (eqb a.status 1 && eqb by 0) (wrapped' (read_at a.d heard)) (back c.wrap-wrapped.result) ≡ omh.wrap (omh.read a.d (sent_to a.status (back a.word) a.table.now a.k q))
@@ -157,7 +120,7 @@ over_dealt-loop-q-preserved t c =
     elim c.if-members-q.branch [
       | over_dealt-then-members-q w ↦ (
         w.members-is ∙ put_back c.loop-q.members _ q w.if-members-q.true w.vote_dealt-vote.ensures.1 ∙ same,
-        report_more c.loop-q.invariant.1 h (rw (← same) w.if-members-q.true)
+        gather_more c.loop-q.invariant.1 h (rw (← same) w.if-members-q.true)
             (back_is (sfits_of w.vote_dealt-vote.type_inv)
             ∙ w.vote_dealt-vote.ensures.0
             ∙ ap (λ (l : List Bool). dealt_vote omh a.statuses.now a.table.now a.p (set l q false) a.left (a.d + 1) (below a.k q) (get_or a.statuses.now q 0) (back w.sent_on-sends.result)) same
@@ -165,23 +128,15 @@ over_dealt-loop-q-preserved t c =
             back_is (sfits_of w.sent_on-sends.type_inv)
             ∙ w.sent_on-sends.ensures
             ∙ sends t (goal.at.over_dealt-loop-q-preserved t c).At-loop-q (back_is (sfits_of w.sent_to-received.type_inv) ∙ w.sent_to-received.ensures) good))
-            w.reports-is (w.count-is ∙ ap (λ (x : ℕ). c.loop-q.count + x) w.weight-count-then-members-q.ensures),
+            (w.reports-is ∙ w.add.ensures),
       )
-      | over_dealt-else-members-q w ↦ (w.members-is ∙ same, report_same c.loop-q.invariant.1 h (rw (← same) w.if-members-q.false) w.reports-is w.count-is)
+      | over_dealt-else-members-q w ↦ (w.members-is ∙ same, gather_same c.loop-q.invariant.1 (rw (← same) w.if-members-q.false) w.reports-is)
     ]
-
-pub over_dealt-slice_bounds-reports-end : goal.over_dealt-slice_bounds-reports-end
-over_dealt-slice_bounds-reports-end t c = inside c.loop-q.invariant.1
-
-pub over_dealt-slice_bounds-decide-end : goal.over_dealt-slice_bounds-decide-end
-over_dealt-slice_bounds-decide-end t c = sym (length-take-le _ _ (inside c.loop-q.invariant.1))
 
 pub over_dealt-returns : goal.over_dealt-returns
 over_dealt-returns t c =
     let a = c.args in (
-      decides omh c.loop-q.invariant.1 c.loop-q-test.false
-          (back_is (sfits_of c.wrap-wrapped.type_inv) ∙ c.wrap-wrapped.ensures ∙ ap omh.wrap (back_is c.ranges.own))
-          (back_is (sfits_of c.decide.type_inv) ∙ c.decide.ensures)
+      gather_decides c.loop-q.invariant.1 c.loop-q.auto.q-end c.loop-q-test.false (back_is c.ranges.own) (back_is (sfits_of c.decide.type_inv) ∙ c.decide.ensures)
           ∙ ap (λ (w : ℤ). decided omh a.own (dealt_votes omh a.statuses.now a.table.now a.p a.members.now a.left a.d a.k a.status w 10)) (back_is c.ranges.word),
       c.loop-q.invariant.0,
     )

@@ -3,12 +3,12 @@ use Rattle.ground.specs.Lists.{at}
 use Rattle.words.specs.Rule.{omh}
 use Rattle.paths.specs.Slots.{below}
 use Rattle.paths.specs.Walk.{may}
-use Rattle.vote.proofs.Gather.{Reporting}
+use Rattle.vote.proofs.Gather.{Gathered}
 use Rattle.entering.proofs.over_held.Given as goal
 
 abbrev pub invariant-loop-q : goal.invariant-loop-q
 invariant-loop-q l =
-    Reporting omh.struck (may l.members) (λ q. omh.read l.d (at l.votes (below l.k q))) (at l.initial.reports 0) l.q l.reports l.count
+    Gathered omh (may l.members) (λ q. omh.read l.d (at l.votes (below l.k q))) l.own l.q l.reports
 
 abbrev pub decreases-loop-q : goal.decreases-loop-q
 decreases-loop-q l = 10 - l.q

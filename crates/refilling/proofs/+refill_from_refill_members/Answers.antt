@@ -4,14 +4,12 @@ use mathlib.Core.Path.{◌≡◌, refl, sym, ap, ◌∙◌}
 use native.Mathlib.Omega.{arith}
 use borrow.Author.Rules.{sfits_of}
 use lib.ListN.{length, length-set, set}
-use lib.Seq.{length-take-le}
 use mir.Syntax.{w32}
 use mir.Val.{to_z}
 use Rattle.ground.specs.Lists.{at}
 use Rattle.ground.proofs.Bits.{back, back_is}
 use Rattle.words.specs.Rule.{omh}
 use Rattle.paths.proofs.Handed.{put_back, room_most}
-use Rattle.vote.proofs.Gather.{inside, weighs}
 use Rattle.refilling.specs.RefillOrder.{book_in, Refilling}
 use Rattle.refilling.proofs.RefillOrder.{fits, refill_reading, refill_decided, refill_long, place_first, place_long, place_asks, place_more, place_same, place_done}
 use Rattle.refilling.proofs.+refill_from_refill_members.Goals as goal
@@ -36,9 +34,6 @@ pub refill_from-refill_last-requires : goal.refill_from-refill_last-requires
 refill_from-refill_last-requires t c =
     let e : c.args.left ≡ 1 = c.if-left-eq1.true in
     rw e at c.requires
-
-pub refill_from-overflow_sub-left : goal.refill_from-overflow_sub-left
-refill_from-overflow_sub-left t c = omega arith
 
 pub refill_from-refill_members-requires : goal.refill_from-refill_members-requires
 refill_from-refill_members-requires t c =
@@ -82,10 +77,7 @@ pub refill_from-returns : goal.refill_from-returns
 refill_from-returns t c = let h = found t (goal.at.refill_from-returns t c).Joined-left-eq0 in record { refilling = h.0; members_unchanged = h.1 }
 
 pub refill_members-loop-q-init : goal.refill_members-loop-q-init
-refill_members-loop-q-init t c = (refl, place_first omh _ _ _ _ _ _ _ _ refl c.weight-count.ensures)
-
-pub refill_members-overflow_add-d : goal.refill_members-overflow_add-d
-refill_members-overflow_add-d t c = omega arith
+refill_members-loop-q-init t c = (refl, place_first omh _ _ _ _ _ _ _ _ c.begin-reports.ensures)
 
 -- the slot that is asked about leaves room for the longer path
 small : (t : ℕ) (c : refill_members-At-loop-q t) → c.args.k < 1111
@@ -104,21 +96,6 @@ pub refill_members-refill_from-vote-requires : goal.refill_members-refill_from-v
 refill_members-refill_from-vote-requires t c =
     (omega arith, place_asks c.loop-q.invariant.1 c.requires c.loop-q-test.true c.loop-q.invariant.0)
 
-pub refill_members-offset_bounds-reports-count : goal.refill_members-offset_bounds-reports-count
-refill_members-offset_bounds-reports-count t c = omega arith
-
-pub refill_members-bounds-reports-count : goal.refill_members-bounds-reports-count
-refill_members-bounds-reports-count t c = omega arith
-
-pub refill_members-overflow_add-count : goal.refill_members-overflow_add-count
-refill_members-overflow_add-count t c = omega (arith, weighs (omh.struck (back c.refill_from-vote.result)) c.weight-count-then-members-q.ensures)
-
-pub refill_members-overflow_step-q : goal.refill_members-overflow_step-q
-refill_members-overflow_step-q t c = omega arith
-
-pub refill_members-loop-q-smaller : goal.refill_members-loop-q-smaller
-refill_members-loop-q-smaller t c = omega arith
-
 pub refill_members-loop-q-preserved : goal.refill_members-loop-q-preserved
 refill_members-loop-q-preserved t c =
     let loop = c.loop-q in
@@ -127,16 +104,10 @@ refill_members-loop-q-preserved t c =
     elim c.if-members-q.branch [
       | refill_members-then-members-q w ↦ (
         w.members-is ∙ put_back loop.members _ loop.q w.if-members-q.true w.refill_from-vote.ensures.members_unchanged ∙ same,
-        place_more loop.invariant.1 h same w.if-members-q.true w.list-is w.refill_from-vote.ensures.refilling (back_is (sfits_of w.refill_from-vote.type_inv)) w.reports-is (w.count-is ∙ ap (λ (x : ℕ). loop.count + x) w.weight-count-then-members-q.ensures),
+        place_more loop.invariant.1 h same w.if-members-q.true w.list-is w.refill_from-vote.ensures.refilling (back_is (sfits_of w.refill_from-vote.type_inv)) (w.reports-is ∙ w.add.ensures),
       )
-      | refill_members-else-members-q w ↦ (w.members-is ∙ same, place_same loop.invariant.1 h same w.if-members-q.false w.list-is w.reports-is w.count-is)
+      | refill_members-else-members-q w ↦ (w.members-is ∙ same, place_same loop.invariant.1 h same w.if-members-q.false w.list-is w.reports-is)
     ]
-
-pub refill_members-slice_bounds-reports-end : goal.refill_members-slice_bounds-reports-end
-refill_members-slice_bounds-reports-end t c = inside c.loop-q.invariant.1.reported
-
-pub refill_members-slice_bounds-decide-end : goal.refill_members-slice_bounds-decide-end
-refill_members-slice_bounds-decide-end t c = sym (length-take-le _ _ (inside c.loop-q.invariant.1.reported))
 
 pub refill_members-shape_of-list : goal.refill_members-shape_of-list
 refill_members-shape_of-list t c = place_long c.loop-q.invariant.1 c.requires
@@ -144,6 +115,6 @@ refill_members-shape_of-list t c = place_long c.loop-q.invariant.1 c.requires
 pub refill_members-returns : goal.refill_members-returns
 refill_members-returns t c =
     record {
-      refilling_below = place_done c.loop-q.invariant.1 c.loop-q-test.false (back_is (sfits_of c.wrap-wrapped.type_inv) ∙ c.wrap-wrapped.ensures ∙ ap omh.wrap (back_is c.ranges.own)) (back_is (sfits_of c.decide.type_inv) ∙ c.decide.ensures);
+      refilling_below = place_done c.loop-q.invariant.1 c.loop-q.auto.q-end c.loop-q-test.false (back_is c.ranges.own) (back_is (sfits_of c.decide.type_inv) ∙ c.decide.ensures);
       members_unchanged = c.loop-q.invariant.0;
     }

@@ -1,6 +1,5 @@
 use Prim.Native.Nat.{◌+◌, ◌-◌, ◌*◌}
 use mathlib.Core.Path.{◌≡◌}
-use Rattle.ground.specs.Lists.{at}
 use Rattle.words.specs.Rule.{omh}
 use Rattle.refilling.proofs.RefillOrder.{Placing}
 use Rattle.refilling.proofs.+refill_from_refill_members.Given as goal
@@ -13,7 +12,7 @@ decreases-refill_members l = 2 * l.left + 1
 
 abbrev pub invariant-refill_members-loop-q : goal.invariant-refill_members-loop-q
 invariant-refill_members-loop-q l =
-    (l.members ≡ l.initial.members) × Placing omh l.words l.initial.list l.first l.initial.members l.left l.d l.k (at l.initial.reports 0) l.q l.list l.reports l.count
+    (l.members ≡ l.initial.members) × Placing omh l.words l.initial.list l.first l.initial.members l.left l.d l.k l.own l.q l.list l.reports
 
 abbrev pub decreases-refill_members-loop-q : goal.decreases-refill_members-loop-q
 decreases-refill_members-loop-q l = 10 - l.q

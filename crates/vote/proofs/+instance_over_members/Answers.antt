@@ -4,10 +4,9 @@ use mathlib.Core.Path.{◌≡◌, refl, sym, ap, ◌∙◌}
 use mathlib.Core.Bool.{Bool, false}
 use mathlib.Core.List.{List}
 use native.Mathlib.Omega.{arith}
-use borrow.Author.Rules.{rules, sfits_of}
+use borrow.Author.Rules.{sfits_of}
 use lib.IntN.{ℤ}
 use lib.ListN.{length, length-set, set}
-use lib.Seq.{length-take-le}
 use Rattle.ground.specs.Lists.{at}
 use Rattle.ground.proofs.Bits.{back, back_is}
 use Rattle.words.specs.Rule.{omh}
@@ -15,7 +14,7 @@ use Rattle.paths.specs.Slots.{below}
 use Rattle.paths.proofs.Handed.{put_back, room_less, room_most, room_back}
 use Rattle.vote.specs.Vote.{decided}
 use Rattle.vote.specs.Members.{member_vote, members_votes}
-use Rattle.vote.proofs.Gather.{inside, report_first, report_more, report_same, weighs, decides, vote-last, vote_more}
+use Rattle.vote.proofs.Gather.{gather_none, gather_more, gather_same, gather_decides, vote-last, vote_more}
 use Rattle.vote.proofs.+instance_over_members.Goals as goal
 use Rattle.vote.proofs.+instance_over_members.Goals.{over_members-then-members-q, over_members-else-members-q, instance-After-read_at-own, over_members-At-loop-q}
 
@@ -35,9 +34,6 @@ instance-returns-then-left-eq0 t c =
     let a = c.args in
     (own t (goal.at.instance-returns-then-left-eq0 t c).After-read_at-own ∙ sym (vote-last omh _ _ a.left a.d a.k c.if-left-eq0.true), refl)
 
-pub instance-overflow_sub-left : goal.instance-overflow_sub-left
-instance-overflow_sub-left t c = omega arith
-
 pub instance-over_members-requires : goal.instance-over_members-requires
 instance-over_members-requires t c =
     let pre = c.requires in
@@ -54,16 +50,7 @@ instance-returns t c =
     )
 
 pub over_members-loop-q-init : goal.over_members-loop-q-init
-over_members-loop-q-init t c = (refl, report_first _ _ _ _ refl (search rules))
-
-pub over_members-bounds-members-q : goal.over_members-bounds-members-q
-over_members-bounds-members-q t c = c.loop-q-test.true
-
-pub over_members-bounds-members-q-then-members-q : goal.over_members-bounds-members-q-then-members-q
-over_members-bounds-members-q-then-members-q t c = c.loop-q-test.true
-
-pub over_members-overflow_add-d : goal.over_members-overflow_add-d
-over_members-overflow_add-d t c = omega (arith, c.requires.deep)
+over_members-loop-q-init t c = (refl, gather_none omh _ _ _ c.begin-reports.ensures)
 
 -- the slot that is asked about leaves room for the longer path
 
@@ -91,50 +78,23 @@ over_members-instance-vote-requires t c =
       },
     )
 
-pub over_members-bounds-members-q-then-members-q-2 : goal.over_members-bounds-members-q-then-members-q-2
-over_members-bounds-members-q-then-members-q-2 t c = c.loop-q-test.true
-
-pub over_members-offset_bounds-reports-count : goal.over_members-offset_bounds-reports-count
-over_members-offset_bounds-reports-count t c = omega (arith, c.loop-q.invariant.1.few)
-
-pub over_members-bounds-reports-count : goal.over_members-bounds-reports-count
-over_members-bounds-reports-count t c = omega (arith, c.loop-q.invariant.1.few)
-
-pub over_members-overflow_add-count : goal.over_members-overflow_add-count
-over_members-overflow_add-count t c = grind (arith, c.loop-q.invariant.1.few, weighs)
-
-pub over_members-overflow_step-q : goal.over_members-overflow_step-q
-over_members-overflow_step-q t c = omega arith
-
-pub over_members-loop-q-smaller : goal.over_members-loop-q-smaller
-over_members-loop-q-smaller t c = omega arith
-
 pub over_members-loop-q-preserved : goal.over_members-loop-q-preserved
 over_members-loop-q-preserved t c =
-    let h = c.loop-q-test.true in
     let a = c.args in
     let q = c.loop-q.q in
     let same = c.loop-q.invariant.0 in
     elim c.if-members-q.branch [
       | over_members-then-members-q w ↦ (
         w.members-is ∙ put_back c.loop-q.members _ q w.if-members-q.true w.instance-vote.ensures.1 ∙ same,
-        report_more c.loop-q.invariant.1 h (rw (← same) w.if-members-q.true)
+        gather_more c.loop-q.invariant.1 c.loop-q-test.true (rw (← same) w.if-members-q.true)
             (back_is (sfits_of w.instance-vote.type_inv) ∙ w.instance-vote.ensures.0 ∙ ap (λ (l : List Bool). member_vote omh a.words.now (set l q false) a.left (a.d + 1) (below a.k q)) same)
-            w.reports-is (w.count-is ∙ ap (λ (x : ℕ). c.loop-q.count + x) (search rules)),
+            (w.reports-is ∙ w.add.ensures),
       )
-      | over_members-else-members-q w ↦ (w.members-is ∙ same, report_same c.loop-q.invariant.1 h (rw (← same) w.if-members-q.false) w.reports-is w.count-is)
+      | over_members-else-members-q w ↦ (w.members-is ∙ same, gather_same c.loop-q.invariant.1 (rw (← same) w.if-members-q.false) w.reports-is)
     ]
-
-pub over_members-slice_bounds-reports-end : goal.over_members-slice_bounds-reports-end
-over_members-slice_bounds-reports-end t c = inside c.loop-q.invariant.1
-
-pub over_members-slice_bounds-decide-end : goal.over_members-slice_bounds-decide-end
-over_members-slice_bounds-decide-end t c = sym (length-take-le _ _ (inside c.loop-q.invariant.1))
 
 pub over_members-returns : goal.over_members-returns
 over_members-returns t c = (
-  decides omh c.loop-q.invariant.1 c.loop-q-test.false
-      (back_is (sfits_of c.wrap-wrapped.type_inv) ∙ c.wrap-wrapped.ensures ∙ ap omh.wrap (back_is c.ranges.own))
-      (back_is (sfits_of c.decide.type_inv) ∙ c.decide.ensures),
+  gather_decides c.loop-q.invariant.1 c.loop-q.auto.q-end c.loop-q-test.false (back_is c.ranges.own) (back_is (sfits_of c.decide.type_inv) ∙ c.decide.ensures),
   c.loop-q.invariant.0,
 )

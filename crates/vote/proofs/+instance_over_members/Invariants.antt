@@ -2,12 +2,11 @@ use Prim.Native.Nat.{◌+◌, ◌-◌, ◌*◌}
 use mathlib.Core.Path.{◌≡◌}
 use mathlib.Core.Bool.{false}
 use lib.ListN.{set}
-use Rattle.ground.specs.Lists.{at}
 use Rattle.words.specs.Rule.{omh}
 use Rattle.paths.specs.Slots.{below}
 use Rattle.paths.specs.Walk.{may}
 use Rattle.vote.specs.Members.{member_vote}
-use Rattle.vote.proofs.Gather.{Reporting}
+use Rattle.vote.proofs.Gather.{Gathered}
 use Rattle.vote.proofs.+instance_over_members.Given as goal
 
 abbrev pub decreases-instance : goal.decreases-instance
@@ -18,7 +17,7 @@ decreases-over_members l = 2 * l.left + 1
 
 abbrev pub invariant-over_members-loop-q : goal.invariant-over_members-loop-q
 invariant-over_members-loop-q l =
-    (l.members ≡ l.initial.members) × Reporting omh.struck (may l.initial.members) (λ q. member_vote omh l.words (set l.initial.members q false) l.left (l.d + 1) (below l.k q)) (at l.initial.reports 0) l.q l.reports l.count
+    (l.members ≡ l.initial.members) × Gathered omh (may l.initial.members) (λ q. member_vote omh l.words (set l.initial.members q false) l.left (l.d + 1) (below l.k q)) l.own l.q l.reports
 
 abbrev pub decreases-over_members-loop-q : goal.decreases-over_members-loop-q
 decreases-over_members-loop-q l = 10 - l.q

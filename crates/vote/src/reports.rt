@@ -1,0 +1,61 @@
+// The reports from which a vote is decided: the own one, and one from each card that lengthens the path. A struck report is left out: the next takes its place.
+
+ghost use Rattle.std.specs.Prelude.{◌≡◌, ◌≤◌, List, [], ◌∷◌, ◌++◌, ℤ, length, take};
+ghost use Rattle.words.specs.Word.{wrapped};
+ghost use Rattle.words.specs.Majority.{kept};
+ghost use Rattle.words.specs.Rule.{omh};
+ghost use Rattle.words.specs.Counted.{majority_of};
+ghost use Rattle.vote.specs.Reports.{most_reports};
+
+use settings::Settings;
+use std::marker::Model;
+
+// An own report, and one from each of the ten cards.
+const REPORTS: usize = Settings::MAX_CARDS + 1;
+
+#[derive(Drop)]
+pub struct Reports {
+    list: [i32; REPORTS],
+    count: usize,
+}
+
+impl Model for Reports {
+    ghost Value = { List ℤ };
+
+    ghost view = { λ r. take r.count r.list };
+
+    ghost invariant = { λ r. r.count ≤ most_reports };
+}
+
+impl Reports {
+    // Begins with the own report: the own reading, wrapped.
+    #[inline]
+    pub fn begin(own: i32) -> Self
+        ensures { result ≡ kept omh.struck (wrapped own ∷ []) }
+    {
+        let wrapped = words::wrap(own);
+        Reports {
+            list: [wrapped; REPORTS],
+            count: words::weight(wrapped),
+        }
+    }
+
+    // Adds a report, unless there is one of each card.
+    #[inline]
+    pub fn add(&mut self, vote: i32)
+        ensures { self.new ≡ take most_reports (self.old ++ kept omh.struck (vote ∷ [])) }
+    {
+        if self.count < REPORTS {
+            self.list[self.count] = vote;
+            self.count += words::weight(vote);
+        }
+    }
+
+    // The vote that they decide: their majority, unwrapped.
+    #[inline]
+    pub fn decide(&self) -> i32
+        ensures { result ≡ omh.unwrap (majority_of omh.struck omh.none (length self.now) self.now) }
+    {
+        words::decide(&self.list[..self.count])
+    }
+}
