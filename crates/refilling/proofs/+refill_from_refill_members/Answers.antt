@@ -10,25 +10,25 @@ use Rattle.ground.specs.Lists.{at}
 use Rattle.ground.proofs.Bits.{back, back_is}
 use Rattle.words.specs.Rule.{omh}
 use Rattle.paths.proofs.Handed.{put_back, room_most}
-use Rattle.refilling.specs.RefillOrder.{book_in, Refilling}
+use Rattle.book.specs.Book.{book_of}
+use Rattle.refilling.specs.RefillOrder.{Refilling}
 use Rattle.refilling.proofs.RefillOrder.{fits, refill_reading, refill_decided, refill_long, place_first, place_long, place_asks, place_more, place_same, place_done}
 use Rattle.refilling.proofs.+refill_from_refill_members.Goals as goal
 use Rattle.refilling.proofs.+refill_from_refill_members.Goals.{refill_from-After-read_at-own, refill_from-Joined-left-eq0, refill_from-Start, refill_members-At-loop-q, refill_members-then-members-q, refill_members-else-members-q, refill_from-then-left-eq0, refill_from-else-left-eq0+then-left-eq1, refill_from-else-left-eq0+else-left-eq1}
 
 -- the slot is one of the words, and its vote has a place
-place : (t : ℕ) (c : refill_from-Start t) → let a = c.args in
-    (a.k < length (book_in a.words.now a.list.now a.first).words) × (a.first + a.k < length a.list.now)
-place t c = let a = c.args in fits a.words.now a.list.now a.first a.k c.requires
+place : (t : ℕ) (c : refill_from-Start t) → let a = c.args in (a.k < length a.words.now) × (a.k < length a.votes.now)
+place t c = fits c.requires
 
-pub refill_from-word_at-requires : goal.refill_from-word_at-requires
-refill_from-word_at-requires t c = (place t (goal.at.refill_from-word_at-requires t c).Start).0
+pub refill_from-offset_bounds-words-k : goal.refill_from-offset_bounds-words-k
+refill_from-offset_bounds-words-k t c = omega (arith, (place t (goal.at.refill_from-offset_bounds-words-k t c).Start).0)
+
+pub refill_from-bounds-words-k : goal.refill_from-bounds-words-k
+refill_from-bounds-words-k t c = omega (arith, (place t (goal.at.refill_from-bounds-words-k t c).Start).0)
 
 -- the own reading
-own : (t : ℕ) (c : refill_from-After-read_at-own t) → let a = c.args in
-    back c.read_at-own.result ≡ omh.read a.d (at (book_in a.words.now a.list.now a.first).words a.k)
-own t c =
-    let word = c.word_at in
-    back_is (sfits_of c.read_at-own.type_inv) ∙ c.read_at-own.ensures ∙ ap (omh.read _) (back_is (sfits_of word.type_inv) ∙ word.ensures)
+own : (t : ℕ) (c : refill_from-After-read_at-own t) → let a = c.args in back c.read_at-own.result ≡ omh.read a.d (at a.words.now a.k)
+own t c = back_is (sfits_of c.read_at-own.type_inv) ∙ c.read_at-own.ensures ∙ ap (omh.read _) (back_is (sfits_of c.read_at-arg-1.given))
 
 pub refill_from-refill_last-requires : goal.refill_from-refill_last-requires
 refill_from-refill_last-requires t c =
@@ -42,42 +42,39 @@ refill_from-refill_members-requires t c =
 
 -- the vote, in its place after those of the longer paths
 found : (t : ℕ) (c : refill_from-Joined-left-eq0 t) → let a = c.args in
-    Refilling omh (book_in a.words.now a.list.now a.first) a.members.now a.left a.d a.k (to_z w32 c.if-left-eq0.vote-bits) (book_in a.words.now (set c.if-left-eq0.list (a.first + a.k) (to_z w32 c.if-left-eq0.vote-bits)) a.first)
+    Refilling omh (book_of a.words.now a.votes.now) a.members.now a.left a.d a.k (to_z w32 c.if-left-eq0.vote-bits) (book_of a.words.now (set c.if-left-eq0.votes a.k (to_z w32 c.if-left-eq0.vote-bits)))
     × (c.if-left-eq0.members ≡ a.members.now)
 found t c =
     let a = c.args in
     let left = a.left in
     let words = a.words.now in
-    let list = a.list.now in
+    let votes = a.votes.now in
     elim c.if-left-eq0.branch [
       | refill_from-then-left-eq0 w ↦
-          (refill_reading omh words list a.first _ left _ _ w.if-left-eq0.true w.list-is (w.vote-is ∙ own t c.before), w.members-is)
+          (refill_reading omh words votes _ left _ _ w.if-left-eq0.true w.votes-is (w.vote-is ∙ own t c.before), w.members-is)
       | refill_from-else-left-eq0+then-left-eq1 w ↦
-          (refill_decided omh words list a.first _ left _ _ w.if-left-eq0.false w.list-is (omega (arith, w.if-left-eq1.true)) (own t c.before) w.refill_last.ensures (w.vote-is ∙ back_is (sfits_of w.refill_last.type_inv)), w.members-is)
+          (refill_decided omh words votes _ left _ _ w.if-left-eq0.false w.votes-is (omega (arith, w.if-left-eq1.true)) (own t c.before) w.refill_last.ensures (w.vote-is ∙ back_is (sfits_of w.refill_last.type_inv)), w.members-is)
       | refill_from-else-left-eq0+else-left-eq1 w ↦
           let f = w.refill_members.ensures in
-          (refill_decided omh words list a.first _ left _ _ w.if-left-eq0.false w.list-is refl (own t c.before) f.refilling_below (w.vote-is ∙ back_is (sfits_of w.refill_members.type_inv)), w.members-is ∙ f.members_unchanged)
+          (refill_decided omh words votes _ left _ _ w.if-left-eq0.false w.votes-is refl (own t c.before) f.refilling_below (w.vote-is ∙ back_is (sfits_of w.refill_members.type_inv)), w.members-is ∙ f.members_unchanged)
     ]
 
-pub refill_from-shape_of-list : goal.refill_from-shape_of-list
-refill_from-shape_of-list t c =
+pub refill_from-shape_of-votes : goal.refill_from-shape_of-votes
+refill_from-shape_of-votes t c =
     let a = c.args in
-    refill_long omh a.words.now a.list.now a.first _ _ _ _ c.requires (set c.if-left-eq0.list (a.first + a.k) _) (found t (goal.at.refill_from-shape_of-list t c).Joined-left-eq0).0
+    refill_long omh a.words.now a.votes.now _ _ _ _ (set c.if-left-eq0.votes a.k _) (found t (goal.at.refill_from-shape_of-votes t c).Joined-left-eq0).0
 
-pub refill_from-overflow_add-vote : goal.refill_from-overflow_add-vote
-refill_from-overflow_add-vote t c = omega (arith, (place t (goal.at.refill_from-overflow_add-vote t c).Start).1)
+pub refill_from-offset_bounds-votes-k : goal.refill_from-offset_bounds-votes-k
+refill_from-offset_bounds-votes-k t c = omega (arith, (place t (goal.at.refill_from-offset_bounds-votes-k t c).Start).1)
 
-pub refill_from-offset_bounds-list-first : goal.refill_from-offset_bounds-list-first
-refill_from-offset_bounds-list-first t c = omega (arith, (place t (goal.at.refill_from-offset_bounds-list-first t c).Start).1)
-
-pub refill_from-bounds-list-first : goal.refill_from-bounds-list-first
-refill_from-bounds-list-first t c = omega (arith, (place t (goal.at.refill_from-bounds-list-first t c).Start).1, sym (length-set c.if-left-eq0.list _ _) ∙ refill_from-shape_of-list t c)
+pub refill_from-bounds-votes-k : goal.refill_from-bounds-votes-k
+refill_from-bounds-votes-k t c = omega (arith, (place t (goal.at.refill_from-bounds-votes-k t c).Start).1, sym (length-set c.if-left-eq0.votes _ _) ∙ refill_from-shape_of-votes t c)
 
 pub refill_from-returns : goal.refill_from-returns
 refill_from-returns t c = let h = found t (goal.at.refill_from-returns t c).Joined-left-eq0 in record { refilling = h.0; members_unchanged = h.1 }
 
 pub refill_members-loop-q-init : goal.refill_members-loop-q-init
-refill_members-loop-q-init t c = (refl, place_first omh _ _ _ _ _ _ _ _ c.begin-reports.ensures)
+refill_members-loop-q-init t c = (refl, place_first omh _ _ _ _ _ _ _ c.begin-reports.ensures)
 
 -- the slot that is asked about leaves room for the longer path
 small : (t : ℕ) (c : refill_members-At-loop-q t) → c.args.k < 1111
@@ -104,13 +101,13 @@ refill_members-loop-q-preserved t c =
     elim c.if-members-q.branch [
       | refill_members-then-members-q w ↦ (
         w.members-is ∙ put_back loop.members _ loop.q w.if-members-q.true w.refill_from-vote.ensures.members_unchanged ∙ same,
-        place_more loop.invariant.1 h same w.if-members-q.true w.list-is w.refill_from-vote.ensures.refilling (back_is (sfits_of w.refill_from-vote.type_inv)) (w.reports-is ∙ w.add.ensures),
+        place_more loop.invariant.1 h same w.if-members-q.true w.votes-is w.refill_from-vote.ensures.refilling (back_is (sfits_of w.refill_from-vote.type_inv)) (w.reports-is ∙ w.add.ensures),
       )
-      | refill_members-else-members-q w ↦ (w.members-is ∙ same, place_same loop.invariant.1 h same w.if-members-q.false w.list-is w.reports-is)
+      | refill_members-else-members-q w ↦ (w.members-is ∙ same, place_same loop.invariant.1 h same w.if-members-q.false w.votes-is w.reports-is)
     ]
 
-pub refill_members-shape_of-list : goal.refill_members-shape_of-list
-refill_members-shape_of-list t c = place_long c.loop-q.invariant.1 c.requires
+pub refill_members-shape_of-votes : goal.refill_members-shape_of-votes
+refill_members-shape_of-votes t c = place_long c.loop-q.invariant.1
 
 pub refill_members-returns : goal.refill_members-returns
 refill_members-returns t c =

@@ -12,7 +12,7 @@ decreases-refill_members l = 2 * l.left + 1
 
 abbrev pub invariant-refill_members-loop-q : goal.invariant-refill_members-loop-q
 invariant-refill_members-loop-q l =
-    (l.members ≡ l.initial.members) × Placing omh l.words l.initial.list l.first l.initial.members l.left l.d l.k l.own l.q l.list l.reports
+    (l.members ≡ l.initial.members) × Placing omh l.words l.initial.votes l.initial.members l.left l.d l.k l.own l.q l.votes l.reports
 
 abbrev pub decreases-refill_members-loop-q : goal.decreases-refill_members-loop-q
 decreases-refill_members-loop-q l = 10 - l.q

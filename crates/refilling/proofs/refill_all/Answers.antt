@@ -13,7 +13,6 @@ use Rattle.paths.proofs.Handed.{left_few, room_zero}
 use Rattle.vote.specs.Members.{member_vote}
 use Rattle.vote.specs.Vote.{rule_of}
 use Rattle.book.specs.Book.{book_of}
-use Rattle.refilling.specs.RefillOrder.{book_in}
 use Rattle.refilling.proofs.Refilled.{put_votes}
 use Rattle.refilling.proofs.refill_all.Goals as goal
 use Rattle.refilling.proofs.refill_all.Goals.{After-may_relay-members}
@@ -38,7 +37,7 @@ pub returns : goal.returns
 returns c =
     let a = c.args in
     let R = rule_of a.s.rack in
-    let b = book_in a.words.now a.list.now a.first in
+    let b = book_of a.words.now a.votes.now in
     c.refill_from.ensures.refilling.book
     ∙ ap (book_of b.words)
     (ap₂ (λ (l : List Bool) (r : ℕ). put_in (member_vote R b.words) l r 0 0 b.votes) (top (goal.at.returns c).After-may_relay-members) c.rounds_left-left.ensures

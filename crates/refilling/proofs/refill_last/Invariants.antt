@@ -5,7 +5,7 @@ use Rattle.refilling.proofs.refill_last.Given as goal
 
 abbrev pub invariant-loop-q : goal.invariant-loop-q
 invariant-loop-q l =
-    Placing omh l.words l.initial.list l.first l.members 0 l.d l.k l.own l.q l.list l.reports
+    Placing omh l.words l.initial.votes l.members 0 l.d l.k l.own l.q l.votes l.reports
 
 abbrev pub decreases-loop-q : goal.decreases-loop-q
 decreases-loop-q l = 10 - l.q

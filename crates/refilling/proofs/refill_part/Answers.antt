@@ -1,18 +1,17 @@
--- `refilling::refill_part` meets its contract: the verdict decides.
-use mathlib.Core.Path.{sym, ◌∙◌}
-use Rattle.ground.proofs.Answers.{outcome-refused, outcome_done}
-use Rattle.book.specs.Book.{halves}
-use Rattle.refilling.proofs.Refilled.{refill-asked}
+-- `refilling::refill_part` meets its contract: it is the call on its two halves.
+use Prim.Native.Nat.{ℕ, ◌+◌}
+use mathlib.Core.Path.{ap, ◌∙◌}
+use Rattle.book.proofs.Halves.{split_call}
+use Rattle.refilling.specs.Refilled.{refill_asked}
 use Rattle.refilling.proofs.refill_part.Goals as goal
-
-pub returns-then-no-ne0 : goal.returns-then-no-ne0
-returns-then-no-ne0 c = outcome-refused c.part_refused-no.ensures c.if-no-ne0.true _ _
-
-pub refill_all-requires : goal.refill_all-requires
-refill_all-requires c =
-    let a = c.args in
-    refill-asked a.s (halves a.part.now) (sym c.part_refused-no.ensures ∙ c.if-no-ne0.false)
 
 pub returns : goal.returns
 returns c =
-    outcome_done c.part_refused-no.ensures c.if-no-ne0.false _ c.refill_all.ensures
+    let at = c.split_at_mut-words.ensures in
+    split_call (record {
+      half = c.min-half.ensures;
+      front = at.front;
+      back = at.back;
+      left_long = at.front_len;
+      right_long = ap (λ (n : ℕ). n + c.min-half.result) c.refill.auto.votes ∙ at.back_len;
+    }) (refill_asked c.args.s) c.refill.ensures
