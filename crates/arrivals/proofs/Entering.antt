@@ -1,18 +1,20 @@
--- What entering a frame comes to, check by check; and that a frame which is not refused is its word entered at its path's slot.
+-- A frame that is not refused is its word entered at its path's slot, and one that is has the number of the first check that applies.
 use Prim.Native.Nat.{ℕ, zero, suc, ◌≤◌}
 use mathlib.Core.Path.{◌≡◌, refl, sym, ap, ◌∙◌, subst}
-use mathlib.Core.Bool.{Bool, true, false, not, ◌&&◌}
+use mathlib.Core.Bool.{Bool, true, not, ◌&&◌}
 use mathlib.Core.List.{List, [], ◌∷◌, ◌++◌}
 use native.Mathlib.Omega.{arith}
-use lib.Dec.{T, eqb, ltb, leb, leb→le}
+use lib.Dec.{T, ltb, leb, leb→le}
 use borrow.Author.Tests.{le-leb, lt-ltb, not-false}
+use Rattle.std.specs.Prelude.{Result, Ok, Err}
 use Rattle.ground.specs.Refusal as refusal
 use Rattle.ground.specs.Checks.{Check, check, verdict, next}
-use Rattle.ground.specs.Answer.{Answer, value, refused, Outcome, outcome, outcome_by}
+use Rattle.ground.specs.Answer.{Answer, value, refused, answer, Outcome, outcome, outcome_by, refusal_of, of_result}
+use Rattle.ground.specs.declared.refusal.Refusal.{Refusal}
 use Rattle.ground.specs.Lists.{all}
 use Rattle.ground.proofs.Bools.{and_left, and_right}
-use Rattle.ground.proofs.Verdicts.{proper, no_verdict, verdict-append, joined, rest_decides, first_decides, still_refused}
-use Rattle.ground.proofs.Answers.{outcome-refused, value-verdict, refused-verdict}
+use Rattle.ground.proofs.Verdicts.{proper, no_verdict, no_verdicts, verdict-append, joined, rest_decides, first_decides, still_refused}
+use Rattle.ground.proofs.Answers.{outcome-refused, value-verdict, refused-verdict, numbered}
 use Rattle.settings.specs.declared.Settings.{Settings}
 use Rattle.paths.specs.Slots.{live}
 use Rattle.paths.specs.Asked.{used, path_checks, slot_asked}
@@ -23,12 +25,10 @@ use Rattle.book.specs.Asked.{book_checks}
 use Rattle.entering.specs.Entered.{entered}
 use Rattle.entering.specs.declared.Entry.{Entry}
 use Rattle.entering.specs.Asked.{enter_asked}
-use Rattle.ages.specs.Ages.{age_of, class_of}
 use Rattle.frames.specs.Frame.{frame_of, relay_formed, well_formed}
 use Rattle.frames.specs.Asked.{read_checks}
 use Rattle.frames.specs.declared.Frame.{Frame}
-use Rattle.ages.specs.declared.Age.TheVariants.{Current, Old, Ahead}
-use Rattle.arrivals.specs.Entry.{frame_slot, timely_checks, frame_checks, frame_entry, entry_checks, entry_asked, frame_asked}
+use Rattle.arrivals.specs.Entry.{frame_slot, timely_checks, frame_checks, frame_entry, entry_checks, entry_asked, arrival_asked, frame_asked}
 
 -- ---- a well formed frame has a slot
 
@@ -64,25 +64,6 @@ module _ (f : Frame) (w : well_formed f ≡ true) where
   unfolding slot_asked
   path_formed = (value-verdict _ _ slot_formed).0
 
--- ---- old, ahead, another book's
-
-module _ (s : Settings) (current : ℕ) (f : Frame) where
-  pub by_old : class_of (age_of current f.exchange) ≡ Old → 12 ≡ verdict (timely_checks s current f)
-  unfolding verdict
-  by_old e = rw e
-
-  pub by_ahead : class_of (age_of current f.exchange) ≡ Ahead → 13 ≡ verdict (timely_checks s current f)
-  unfolding verdict
-  by_ahead e = rw e
-
-  pub by_foreign : class_of (age_of current f.exchange) ≡ Current → (eqb f.sender s.t && eqb f.receiver s.p) ≡ false → 15 ≡ verdict (timely_checks s current f)
-  unfolding verdict
-  by_foreign e h = rw (e, h)
-
-  pub timely : class_of (age_of current f.exchange) ≡ Current → (eqb f.sender s.t && eqb f.receiver s.p) ≡ true → 0 ≡ verdict (timely_checks s current f)
-  unfolding verdict
-  timely e h = rw (e, h)
-
 -- ---- the verdict on a frame by itself
 
 module _ (s : Settings) (current : ℕ) (bytes : List ℕ) (reads : verdict (read_checks bytes) ≡ 0) where
@@ -90,11 +71,20 @@ module _ (s : Settings) (current : ℕ) (bytes : List ℕ) (reads : verdict (rea
   formed : well_formed (frame_of bytes) ≡ true
   formed = not-false _ (no_verdict (read_checks bytes) tt reads).1.1.1.0
 
-  -- and whether they carry an entry decides
+  -- and whether it carries an entry decides
   by_entry : verdict (entry_checks s current (frame_of bytes)) ≡ verdict (frame_checks s current bytes)
   by_entry =
       first_decides (timely_checks s current (frame_of bytes)) _ tt (path_formed (frame_of bytes) formed)
       ∙ sym (rest_decides (read_checks bytes) (timely_checks s current (frame_of bytes)) tt reads)
+
+  pub entry_arrives : entry_asked s current (frame_of bytes) ≡ arrival_asked s current bytes
+  unfolding entry_asked arrival_asked
+  entry_arrives = ap (λ (v : ℕ). answer v (frame_entry (frame_of bytes))) by_entry
+
+-- a refusal leaves what it was lent as it was
+pub refused_outcome : {L : Type 0} (x : Result (Unit {0}) Refusal) {v : ℕ} → refusal_of x ≡ v → (v ≡ 0 → ⊥) → (before made : L) → outcome (of_result x) before ≡ outcome_by v before made
+refused_outcome (Ok u) e n before made = absurd (n (sym e))
+refused_outcome (Err r) e n before made = outcome-refused e (numbered r) before made
 
 -- ---- other checks come before the frame's, and the slot's last: whatever memory is lent, and whatever an entry makes of it
 
@@ -110,42 +100,36 @@ module _ (cs : List Check) (p : T (proper cs)) (s : Settings) (current : ℕ) (b
   entry e = outcome_by (verdict (cs ++ slot_after e.slot)) before (made e)
 
   -- a frame that is not refused by itself is its entry entered
-  pub frame_is : verdict (frame_checks s current bytes) ≡ 0 → framed ≡ entry (frame_entry (frame_of bytes))
+  frame_is : verdict (frame_checks s current bytes) ≡ 0 → framed ≡ entry (frame_entry (frame_of bytes))
   frame_is none =
       let slot = slot_after (frame_slot (frame_of bytes)) in
       ap (λ (v : ℕ). outcome_by v before (made (frame_entry (frame_of bytes))))
       (verdict-append cs _ p ∙ ap (next (verdict cs)) (rest_decides (frame_checks s current bytes) slot tt none) ∙ sym (verdict-append cs slot p))
 
-  -- refused with its own number, unless the others refuse it first
-  refused-after : {k : ℕ} {x : Answer (Unit {0})} → k ≡ verdict (frame_checks s current bytes) → (k ≡ 0 → ⊥) → x ≡ refused (next (verdict cs) k) → outcome x before ≡ framed
-  unfolding next
-  refused-after {k} e n r =
-      ap (λ (x : Answer (Unit {0})). outcome x before) r
-      ∙ outcome-refused (joined cs _ p refl refl (still_refused (frame_checks s current bytes) _ tt e n)) (some (verdict cs)) before _
-    where
-      some : (v : ℕ) → next v k ≡ 0 → ⊥
-      some zero z = n z
-      some (suc v) z = omega arith
+  -- so is the entry that arrives
+  pub arrival_enters : {e : Entry} {o : Outcome (Answer (Unit {0})) L} → value e ≡ arrival_asked s current bytes → o ≡ entry e → o ≡ framed
+  unfolding arrival_asked
+  arrival_enters a h =
+      let v = value-verdict (frame_entry (frame_of bytes)) (verdict (frame_checks s current bytes)) (sym a) in
+      h ∙ ap entry (sym v.1) ∙ sym (frame_is v.0)
 
-  -- bytes that do not read
-  pub unread_refused : {k : ℕ} {x : Answer (Unit {0})} → k ≡ verdict (read_checks bytes) → (k ≡ 0 → ⊥) → x ≡ refused (next (verdict cs) k) → outcome x before ≡ framed
-  unread_refused e n = refused-after (still_refused (read_checks bytes) _ tt e n) n
+  -- where none does, the others' refusal is first, and then the frame's
+  pub arrival_refused : {no k : ℕ} (x : Result (Unit {0}) Refusal) → refused k ≡ arrival_asked s current bytes → refusal_of x ≡ next no k → no ≡ verdict cs → outcome (of_result x) before ≡ framed
+  unfolding arrival_asked
+  arrival_refused x a e f =
+      let v = refused-verdict (frame_entry (frame_of bytes)) (verdict (frame_checks s current bytes)) (sym a) in
+      let slot = slot_after (frame_slot (frame_of bytes)) in
+      refused_outcome x
+      (joined cs _ p e f (still_refused (frame_checks s current bytes) slot tt (sym v.0) (λ z. v.1 (v.0 ∙ z))))
+      (λ z. v.1 (no_verdicts (frame_checks s current bytes) slot tt (no_verdicts cs _ p z).1).0)
+      before _
 
-  -- bytes that do, by what their record carries
-  module _ (reads : verdict (read_checks bytes) ≡ 0) where
-    pub carried_refused : {k : ℕ} {x : Answer (Unit {0})} → refused k ≡ entry_asked s current (frame_of bytes) → x ≡ refused (next (verdict cs) k) → outcome x before ≡ framed
-    unfolding entry_asked
-    carried_refused c =
-        let v = refused-verdict (frame_entry (frame_of bytes)) (verdict (entry_checks s current (frame_of bytes))) (sym c) in
-        refused-after (sym v.0 ∙ by_entry s current bytes reads) (λ z. v.1 (v.0 ∙ z))
+-- ---- so in a book
 
-    pub carried_enters : {e : Entry} {o : Outcome (Answer (Unit {0})) L} → value e ≡ entry_asked s current (frame_of bytes) → o ≡ entry e → o ≡ framed
-    unfolding entry_asked
-    carried_enters c h =
-        let v = value-verdict (frame_entry (frame_of bytes)) (verdict (entry_checks s current (frame_of bytes))) (sym c) in
-        h ∙ ap entry (sym v.1) ∙ sym (frame_is (sym (by_entry s current bytes reads) ∙ v.0))
+-- what an entry makes of it
+abbrev pub book_made : Settings → Book → Entry → Book
+book_made s b e = entered (rule_of s.rack) s b e.slot e.word
 
--- so in a book
 pub frame-enters : (s : Settings) (b : Book) (current : ℕ) (bytes : List ℕ) → verdict (frame_checks s current bytes) ≡ 0 → frame_asked s b current bytes ≡ enter_asked s b (frame_slot (frame_of bytes)) (frame_of bytes).word
 unfolding frame_asked
-frame-enters s b current bytes = frame_is (book_checks s b) tt s current bytes b (λ e. entered (rule_of s.rack) s b e.slot e.word)
+frame-enters s b current bytes = frame_is (book_checks s b) tt s current bytes b (book_made s b)

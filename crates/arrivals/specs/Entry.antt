@@ -2,7 +2,7 @@
 use Rattle.std.specs.Prelude.{ℕ, Bool, true, false, not, ◌&&◌, List, [], ◌∷◌, ◌++◌, eqb}
 use Rattle.ground.specs.Refusal as refusal
 use Rattle.ground.specs.Checks.{Check, check, verdict}
-use Rattle.ground.specs.Answer.{Answer, value, refused, answer, Outcome, outcome_by}
+use Rattle.ground.specs.Answer.{Answer, answer, Outcome, outcome_by}
 use Rattle.settings.specs.declared.Settings.{Settings}
 use Rattle.paths.specs.Slots.{slot_of, live}
 use Rattle.paths.specs.Asked.{used, path_checks}
@@ -54,6 +54,10 @@ entry_checks s current f = timely_checks s current f ++ path_checks f.level f.q1
 
 unfoldable pub entry_asked : Settings → ℕ → Frame → Answer Entry
 entry_asked s current f = answer (verdict (entry_checks s current f)) (frame_entry f)
+
+-- that of bytes; a frame that reads has a path
+unfoldable pub arrival_asked : Settings → ℕ → List ℕ → Answer Entry
+arrival_asked s current bytes = answer (verdict (frame_checks s current bytes)) (frame_entry (frame_of bytes))
 
 -- 1 to 5 first, and the slot last
 abbrev pub arrival_checks : Settings → Book → ℕ → List ℕ → List Check

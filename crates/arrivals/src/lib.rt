@@ -62,6 +62,6 @@ pub fn enter(
 {
     match arrival(s, current, bytes) {
         Ok(Entry { slot, word }) => entering::enter(s, words, votes, slot, word),
-        Err(late) => refusal::first(book::book_refused(s, words, votes), Err(late)),
+        Err(reason) => refusal::first(book::book_refused(s, words, votes), Err(reason)),
     }
 }

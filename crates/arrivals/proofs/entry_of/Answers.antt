@@ -1,34 +1,29 @@
 -- `arrivals::entry_of` meets its contract: a record that is not timely is refused, then one that has no path.
 use Prim.Native.Nat.{ℕ}
-use mathlib.Core.Path.{refl, sym, ap, ap₂, ◌∙◌}
-use borrow.Author.Rules.{sfits_of}
+use mathlib.Core.Path.{refl, sym, ap₂}
 use lib.IntN.{ℤ}
-use Rattle.ground.specs.Checks.{verdict}
-use Rattle.ground.proofs.Answers.{answer-refused, answer-given, value-verdict, refused-verdict}
-use Rattle.ground.proofs.Bits.{back_is}
-use Rattle.ground.proofs.Verdicts.{rest_decides, still_refused}
-use Rattle.paths.specs.Slots.{slot_of}
-use Rattle.paths.specs.Asked.{of_result, used, path_checks, slot_asked}
+use Rattle.std.proofs.Common.{rules}
+use Rattle.ground.proofs.Answers.{leaves_answer, answer-given, value-verdict, refused-verdict, refused-first, then-decided}
+use Rattle.paths.specs.Asked.{slot_asked}
 use Rattle.arrivals.specs.Entry.{timely_checks, entry_asked}
 use Rattle.arrivals.proofs.entry_of.Goals as goal
 
-pub returns-then-late-ne0 : goal.returns-then-late-ne0
+pub returns-in_err-untimely : goal.returns-in_err-untimely
 unfolding entry_asked
-returns-then-late-ne0 c =
+returns-in_err-untimely c =
     let a = c.args in
-    answer-refused (still_refused (timely_checks a.s a.current a.f) _ tt c.untimely-late.ensures c.if-late-ne0.true) c.if-late-ne0.true _
+    leaves_answer _ _ c.from_residual.ensures.1 (refused-first (timely_checks a.s a.current a.f) _ tt _ c.in_err-untimely.ensures) _
 
-pub returns-in-Slot : goal.returns-in-Slot
+pub returns-in_err-slot : goal.returns-in_err-slot
 unfolding entry_asked slot_asked
-returns-in-Slot c =
+returns-in_err-slot c =
     let a = c.args in
-    let v = value-verdict (slot_of (used a.f.level a.f.q1 a.f.q2 a.f.q3)) (verdict (path_checks a.f.level a.f.q1 a.f.q2 a.f.q3)) (sym c.slot_of.ensures ∙ ap of_result c.in-Slot.is) in
-    answer-given (sym (rest_decides (timely_checks a.s a.current a.f) _ tt (sym c.untimely-late.ensures ∙ c.if-late-ne0.false) ∙ v.0)) refl
-    (ap₂ (λ (k : ℕ) (w : ℤ). record { slot = k; word = w }) (sym v.1) (back_is (sfits_of c.struct_told-1.given.1.1.1.1.1.1.1.0.1)))
+    leaves_answer _ _ c.from_residual-in_err-slot.ensures.1 (then-decided (timely_checks a.s a.current a.f) _ tt c.in_ok-untimely.ensures (sym (refused-verdict _ _ (sym c.in_err-slot.ensures)).0)) _
 
-pub returns-in-Refused : goal.returns-in-Refused
+pub returns : goal.returns
 unfolding entry_asked slot_asked
-returns-in-Refused c =
+returns c =
     let a = c.args in
-    let v = refused-verdict (slot_of (used a.f.level a.f.q1 a.f.q2 a.f.q3)) (verdict (path_checks a.f.level a.f.q1 a.f.q2 a.f.q3)) (sym c.slot_of.ensures ∙ ap of_result c.in-Refused.is) in
-    answer-refused (sym (rest_decides (timely_checks a.s a.current a.f) _ tt (sym c.untimely-late.ensures ∙ c.if-late-ne0.false) ∙ v.0)) (λ z. v.1 (v.0 ∙ z)) _
+    let v = value-verdict _ _ (sym c.in_ok-slot.ensures) in
+    answer-given (then-decided (timely_checks a.s a.current a.f) _ tt c.in_ok-untimely.ensures (sym v.0)) refl
+    (ap₂ (λ (k : ℕ) (w : ℤ). record { slot = k; word = w }) (sym v.1) (search rules))
