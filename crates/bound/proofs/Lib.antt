@@ -1,4 +1,3 @@
 pub mod Counting
 pub mod Says
-pub mod Asking
 pub mod Fixed

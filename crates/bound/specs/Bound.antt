@@ -1,11 +1,13 @@
 -- Document 01, 'The exchange on the bench': whether the bound holds, and as it is asked of the function.
 use Rattle.std.specs.Prelude.{ℕ, ◌+◌, ◌*◌, Bool, true, false, not, ◌&&◌, List, [], ◌∷◌, ◌++◌, eqb, ltb, leb, length}
+use denote.Enum.Bare.{sameb}
 use Rattle.ground.specs.Refusal as refusal
 use Rattle.ground.specs.Checks.{Check, check, verdict}
 use Rattle.ground.specs.Answer.{Answer, answer}
 use Rattle.ground.specs.Lists.{count}
 use Rattle.settings.specs.Settings.{most_cards, cards, fits, rack_checks}
 use Rattle.settings.specs.declared.Rack.{Rack}
+use Rattle.exchange.specs.contracts.Status.{the_type}
 use Rattle.exchange.specs.declared.Status.{Status}
 use Rattle.exchange.specs.declared.Status.TheVariants.{Good, Arbitrary, Symmetric, Manifest}
 use Rattle.exchange.specs.Exchange.{statuses_of}
@@ -28,6 +30,10 @@ is_manifest Good = false
 is_manifest Arbitrary = false
 is_manifest Symmetric = false
 is_manifest Manifest = true
+
+-- a status is this one
+abbrev pub is : Status → Status → Bool
+is kind status = sameb the_type status kind
 
 -- how many cards of the rack have a status of this kind
 abbrev pub those : Rack → (ℕ → Status) → (Status → Bool) → ℕ

@@ -2,23 +2,17 @@
 
 #![tactic(auto)]
 
-ghost use Rattle.std.specs.Prelude.{◌≡◌, ◌&&◌, eqb, get_or};
+ghost use Rattle.std.specs.Prelude.{◌≡◌, ◌≤◌};
 ghost use Rattle.ground.specs.Checks.{verdict};
 ghost use Rattle.ground.specs.Answer.{refusal_of, of_result};
-ghost use Rattle.ground.specs.Lists.{count};
-ghost use Rattle.settings.specs.Settings.{most_cards, fits};
-ghost use Rattle.bound.specs.Bound.{bound_checks, bound_asked};
+ghost use Rattle.settings.specs.Settings.{most_cards};
+ghost use Rattle.exchange.specs.Exchange.{statuses_of};
+ghost use Rattle.bound.specs.Bound.{is, those, bound_checks, bound_asked};
 
-use ground::bytes;
-use ground::refusal;
+use exchange::Status;
 use ground::refusal::Refusal;
+use ground::{bytes, refusal};
 use settings::{Rack, Settings};
-
-const ARBITRARY: u8 = 1;
-
-const SYMMETRIC: u8 = 2;
-
-const MANIFEST: u8 = 3;
 
 // Whether a call for the bound is refused.
 fn bound_refused(rack: Rack, statuses: &[u8]) -> Result<(), Refusal>
@@ -29,12 +23,14 @@ fn bound_refused(rack: Rack, statuses: &[u8]) -> Result<(), Refusal>
     refusal::when(exchange::statuses_bad(rack, statuses), Refusal::Status)
 }
 
-// How many cards of the rack have this status byte.
-fn count_of(rack: Rack, statuses: &[u8], status: u8) -> usize
-    ensures { result ≡ count (λ q. fits rack q && eqb (get_or statuses.now q 0) status) most_cards 0 }
+// How many cards of the rack have this status.
+fn count_of(rack: Rack, statuses: &[u8], status: Status) -> usize
+    ensures value { result ≡ those rack (statuses_of statuses.now) (is status) }
+    ensures few { result ≤ most_cards }
 {
     (0..Settings::MAX_CARDS)
-        .filter(|q| settings::fits(rack, *q) & (bytes::byte_at(statuses, *q) == status))
+        .filter(|q| settings::fits(rack, *q)
+            & (Status::from(bytes::byte_at(statuses, *q)) == status))
         .count()
 }
 
@@ -43,9 +39,9 @@ pub fn bound(rack: Rack, statuses: &[u8]) -> Result<bool, Refusal>
     ensures { of_result result ≡ bound_asked rack statuses.now }
 {
     bound_refused(rack, statuses)?;
-    let a = count_of(rack, statuses, ARBITRARY);
-    let s = count_of(rack, statuses, SYMMETRIC);
-    let c = count_of(rack, statuses, MANIFEST);
+    let a = count_of(rack, statuses, Status::Arbitrary);
+    let s = count_of(rack, statuses, Status::Symmetric);
+    let c = count_of(rack, statuses, Status::Manifest);
     let m = rack.m;
     Ok((2 * a + 2 * s + c + m < settings::cards(rack)) & (a <= m))
 }

@@ -12,6 +12,7 @@ use lib.ListN.{length, get_or, set, length-set}
 use lib.Seq.{ext_get_or, get_or-set_same, get_or-set_other}
 use borrow.Author.Count.{below_more}
 use borrow.Author.Tests.{ltb-true, ltb-false}
+use Rattle.std.specs.List.{filter, range_with_len}
 use Rattle.ground.specs.Lists.{at, table, over, count, some_of}
 use Rattle.ground.proofs.Bools.{cond-case, cond_same}
 
@@ -150,32 +151,17 @@ module _ (f : ℕ → Bool) where
       go (yes z) ih = rw (← z, e)
       go (no n) ih = rw (ih (omega arith)) (or-true (f s))
 
--- ---- counting, one card after another
+-- ---- counting
 
 module _ (f : ℕ → Bool) where
-  count_snoc : (c q : ℕ) → count f (suc c) q ≡ cond (f (q + c)) (suc (count f c q)) (count f c q)
+  pub length-filter_range : (c q : ℕ) → length (filter f (range_with_len q c)) ≡ count f c q
   unfolding count
-  count_snoc zero q = let e : q + 0 ≡ q = omega arith in rw e
-  count_snoc (suc c) q =
-      let e : suc q + c ≡ q + suc c = omega arith in
-      go (f q) (f (q + suc c)) (count_snoc c (suc q) ∙ ap (λ (x : ℕ). cond (f x) (suc (count f c (suc q))) (count f c (suc q))) e)
+  length-filter_range zero q = refl
+  length-filter_range (suc c) q = go (f q) _ (ap (λ (x : ℕ). length (filter f (range_with_len x c))) (add-one q) ∙ length-filter_range c (suc q))
     where
-      go : (a b : Bool) → count f (suc c) (suc q) ≡ cond b (suc (count f c (suc q))) (count f c (suc q)) → cond a (suc (count f (suc c) (suc q))) (count f (suc c) (suc q)) ≡ cond b (suc (cond a (suc (count f c (suc q))) (count f c (suc q)))) (cond a (suc (count f c (suc q))) (count f c (suc q)))
-      go true true e = ap suc e
-      go true false e = ap suc e
-      go false true e = e
-      go false false e = e
-
-  pub count_none : 0 ≡ count f 0 0
-  unfolding count
-  count_none = refl
-
-  -- one more card, that passes or does not
-  pub count_yes : (q : ℕ) → f q ≡ true → count f (q + 1) 0 ≡ count f q 0 + 1
-  count_yes q e = let z : 0 + q ≡ q = omega arith in rw (add-one q) (count_snoc q 0 ∙ rw (z, e) (sym (add-one (count f q 0))))
-
-  pub count_no : (q : ℕ) → f q ≡ false → count f (q + 1) 0 ≡ count f q 0
-  count_no q e = let z : 0 + q ≡ q = omega arith in rw (add-one q) (count_snoc q 0 ∙ rw (z, e))
+      go : (b : Bool) (l : List ℕ) → length l ≡ count f c (suc q) → length (cond b (q ∷ l) l) ≡ cond b (suc (count f c (suc q))) (count f c (suc q))
+      go true l e = ap suc e
+      go false l e = e
 
   count-few : (c q : ℕ) → count f c q ≤ c
   unfolding count

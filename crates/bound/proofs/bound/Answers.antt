@@ -1,47 +1,28 @@
 -- `bound::bound` meets its contract: the verdict decides, then the three counts.
-use Prim.Native.Nat.{◌≤◌}
+use mathlib.Core.Path.{refl, sym}
 use native.Mathlib.Omega.{arith}
-use Rattle.ground.proofs.Answers.{answer-refused}
-use Rattle.ground.proofs.Lists.{counted_few}
+use Rattle.ground.proofs.Answers.{leaves_answer, answer-given}
+use Rattle.ground.proofs.Verdicts.{no_verdicts}
+use Rattle.settings.specs.Settings.{rack_checks}
+use Rattle.settings.proofs.Good.{rack_good}
+use Rattle.exchange.specs.Exchange.{statuses_of}
 use Rattle.bound.specs.Bound.{bound_asked}
-use Rattle.bound.proofs.Asking.{bound-asked, bound_told}
+use Rattle.bound.proofs.Counting.{bounded_by}
 use Rattle.bound.proofs.bound.Goals as goal
 use Rattle.bound.proofs.bound.Goals.{After-count_of-c}
 
-pub returns-then-no-ne0 : goal.returns-then-no-ne0
+pub returns-in_err-bound_refused : goal.returns-in_err-bound_refused
 unfolding bound_asked
-returns-then-no-ne0 c = answer-refused c.bound_refused-no.ensures c.if-no-ne0.true _
+returns-in_err-bound_refused c = leaves_answer _ _ c.from_residual.ensures.1 c.in_err-bound_refused.ensures _
 
 -- no sum is large
-few : (c : After-count_of-c) → (c.count_of-a.result ≤ 10) × (c.count_of-s.result ≤ 10) × (c.count_of-c.result ≤ 10) × (c.args.rack.m ≤ 3)
-few c =
-    let a = c.args in
-    let given = bound-asked a.rack a.statuses.now c.bound_refused-no.ensures c.if-no-ne0.false in
-    (counted_few _ 10 c.count_of-a.ensures, counted_few _ 10 c.count_of-s.ensures, counted_few _ 10 c.count_of-c.ensures, given.0.deep)
-
-pub overflow_mul-a : goal.overflow_mul-a
-overflow_mul-a c = let h = few c in omega arith
-
-pub overflow_mul-s : goal.overflow_mul-s
-overflow_mul-s c = let h = few c in omega arith
-
-pub overflow_add-a : goal.overflow_add-a
-overflow_add-a c = let h = few c in omega arith
-
-pub overflow_add-a-2 : goal.overflow_add-a-2
-overflow_add-a-2 c = let h = few c in omega arith
-
-pub overflow_add-a-3 : goal.overflow_add-a-3
-overflow_add-a-3 c = let h = few c in omega arith
-
-pub returns-then-a-s : goal.returns-then-a-s
-returns-then-a-s c =
-    let a = c.args in
-    bound_told a.rack a.statuses.now c.bound_refused-no.ensures c.if-no-ne0.false
-    c.count_of-a.ensures c.count_of-s.ensures c.count_of-c.ensures c.cards.ensures c.if-a-s.true
+pub overflow_add-result-3 : goal.overflow_add-result-3
+overflow_add-result-3 c =
+    let deep = (rack_good c.args.rack (no_verdicts (rack_checks c.args.rack) _ tt (sym c.in_ok-bound_refused.ensures)).0).deep in
+    omega arith
 
 pub returns : goal.returns
+unfolding bound_asked
 returns c =
     let a = c.args in
-    bound_told a.rack a.statuses.now c.bound_refused-no.ensures c.if-no-ne0.false
-    c.count_of-a.ensures c.count_of-s.ensures c.count_of-c.ensures c.cards.ensures c.if-a-s.false
+    answer-given c.in_ok-bound_refused.ensures refl (bounded_by a.rack (statuses_of a.statuses.now) c.count_of-a.ensures.value c.count_of-s.ensures.value c.count_of-c.ensures.value c.cards.ensures)
