@@ -1,11 +1,10 @@
 -- Each public function's contract fixes its answer and what it is lent: two outcomes that it allows are equal.
-use Prim.Native.Nat.{ℕ}
-use mathlib.Core.Path.{◌≡◌, sym, ap, ◌∙◌}
+use mathlib.Core.Path.{sym, ◌∙◌}
 use mathlib.Core.List.{List}
-use native.Mathlib.Omega.{arith}
 use lib.IntN.{ℤ}
 use Rattle.ground.specs.Fixes.{Fixes}
 use Rattle.std.specs.Prelude.{Result}
+use Rattle.files.specs.declared.Head.{Head}
 use Rattle.ground.specs.declared.refusal.Refusal.{Refusal}
 use Rattle.ground.proofs.Answers.{result_apart}
 use Rattle.files.proofs.read.Kinds as read

@@ -7,9 +7,8 @@ ghost use Rattle.ground.specs.Checks.{verdict};
 ghost use Rattle.ground.specs.Answer.{refusal_of, of_result};
 ghost use Rattle.files.specs.File as spec;
 
-use ground::bytes;
-use ground::refusal;
 use ground::refusal::Refusal;
+use ground::{bytes, refusal};
 use settings::{Rack, Settings, Turn};
 
 const MARK: [u8; 3] = *b"OMX";
@@ -24,20 +23,21 @@ const EXCEPTION_SIZE: usize = 7;
 const MOST_EXCEPTIONS: usize = 64;
 
 // The rack, its sender and the sender's value.
-#[derive(Clone, Copy)]
+#[derive(Clone, Copy, Debug, PartialEq, Eq)]
 pub struct Head {
     pub turn: Turn,
     pub x: i32,
 }
 
 // A word for a slot and a receiver.
-#[derive(Clone, Copy)]
+#[derive(Clone, Copy, Debug, PartialEq, Eq)]
 struct Exception {
     slot: usize,
     receiver: usize,
     word: i32,
 }
 
+#[tactic(auto, unfolding(crate::specs::File::value_in))]
 fn head_of(file: &[u8]) -> Head
     ensures { result ≡ spec.head_of file.now }
 {
@@ -75,6 +75,7 @@ fn exception_at(file: &[u8], i: usize) -> Exception
     }
 }
 
+#[tactic(auto, unfolding(crate::specs::File::exception_bad))]
 fn exception_bad(file: &[u8], i: usize) -> bool
     requires { i < 65536 }
     ensures { result ≡ spec.exception_bad file.now i }
@@ -90,6 +91,7 @@ fn exceptions_bad(file: &[u8]) -> bool
 }
 
 // Whether a file is refused by its mark, version and lengths.
+#[tactic(auto, unfolding(ground::specs::Checks::verdict))]
 fn shape_refused(file: &[u8]) -> Result<(), Refusal>
     ensures { refusal_of result ≡ verdict (spec.shape_checks file.now) }
 {
@@ -113,6 +115,7 @@ fn refused(file: &[u8], h: Head) -> Result<(), Refusal>
 }
 
 // The head of a file that is not refused.
+#[tactic(auto, unfolding(crate::specs::File::file_asked, ground::specs::Answer::answer))]
 pub fn read(file: &[u8]) -> Result<Head, Refusal>
     ensures { of_result result ≡ spec.file_asked file.now }
 {
@@ -122,19 +125,21 @@ pub fn read(file: &[u8]) -> Result<Head, Refusal>
 }
 
 // Puts the word of an exception in its place, where the table has it.
+// Stays: of what is written through a slice's `get_mut` a proof knows the length only.
 fn tell_one(file: &[u8], i: usize, table: &mut [i32])
     requires { i < 65536 }
     ensures { table.new ≡ spec.told_one file.now i table.old }
 {
     let e = exception_at(file, i);
     let place = 10 * e.slot + e.receiver;
-    let word = e.word;
     if place < table.len() {
-        table[place] = word;
+        table[place] = e.word;
     }
 }
 
 // Puts the words of all exceptions in the table, in their order.
+// Stays: an exception may lie past the file's end, where bytes count as 0, so this counts and takes no parts of the file.
+#[tactic(auto, unfolding(crate::specs::File::told))]
 pub fn tell(file: &[u8], table: &mut [i32])
     ensures { table.new ≡ spec.told file.now (spec.exceptions file.now) table.old }
 {

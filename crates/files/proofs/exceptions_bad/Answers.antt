@@ -1,29 +1,24 @@
--- `files::exceptions_bad` meets its contract: no exception before `i` is bad.
-use mathlib.Core.Path.{sym, ◌∙◌}
-use native.Mathlib.Omega.{arith}
-use borrow.Author.Count.{below_more}
-use Rattle.ground.proofs.Lists.{none-of, one_of}
+-- `files::exceptions_bad` meets its contract: some exception is bad.
+use Prim.Native.Nat.{ℕ, zero, suc}
+use mathlib.Core.Path.{◌≡◌, refl, ◌∙◌}
+use mathlib.Core.Bool.{Bool}
+use native.Mathlib.Numerals.{add-one}
+use Rattle.std.proofs.Common.{rules, tests, arith}
+use Rattle.std.specs.List.{list_any, range_with_len}
+use Rattle.std.proofs.lemmas.Iterator.{YieldsList-from_range}
+use Rattle.std.proofs.lemmas.Iterator.Search.{any_from_yields_List}
+use Rattle.ground.specs.Lists.{table, some_of}
+use Rattle.files.specs.File.{exceptions, exception_bad}
 use Rattle.files.proofs.exceptions_bad.Goals as goal
 
-pub loop-i-init : goal.loop-i-init
-loop-i-init c = λ j h. absurd (omega arith)
-
-pub exception_bad-requires : goal.exception_bad-requires
-exception_bad-requires c = omega arith
-
-pub returns-then-exception_bad : goal.returns-then-exception_bad
-returns-then-exception_bad c =
-    sym (one_of _ _ 0 c.loop-i.i (omega arith) (omega arith) (sym c.exception_bad.ensures ∙ c.if-exception_bad.true))
-
-pub overflow_step-i : goal.overflow_step-i
-overflow_step-i c = omega arith
-
-pub loop-i-smaller : goal.loop-i-smaller
-loop-i-smaller c = omega arith
-
-pub loop-i-preserved : goal.loop-i-preserved
-loop-i-preserved c =
-    below_more _ _ c.loop-i.invariant (sym c.exception_bad.ensures ∙ c.if-exception_bad.false)
+-- some of the n numbers from s on passes
+any_table : (f : ℕ → Bool) (n s : ℕ) → list_any f (range_with_len s n) ≡ some_of (table n s f)
+unfolding table some_of
+any_table f zero s = refl
+any_table f (suc n) s = rw (add-one s, any_table f n (suc s))
 
 pub returns : goal.returns
-returns c = sym (none-of _ _ 0 (λ i h. c.loop-i.invariant i (omega arith)))
+returns c =
+    let file = c.args.file.now in
+    any_from_yields_List (exception_bad file) _ _ _ c.any.ensures.ran (YieldsList-from_range 0 _ (exceptions file) refl (omega (arith, c.exceptions.ensures.0))) (λ x b q k. search (rules, tests))
+    ∙ any_table (exception_bad file) (exceptions file) 0
