@@ -1,2 +1,3 @@
+pub mod Twenty
 pub mod Good
 pub mod Fixed

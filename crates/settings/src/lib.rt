@@ -34,6 +34,21 @@ pub struct Settings {
     pub p: usize,
 }
 
+<<<<<<< ours
+=======
+#[derive(Clone, Copy)]
+pub enum Checked {
+    Good(Settings),
+    Refused(u8),
+}
+
+// Ten cards that fit, then ten that do not.
+const TEN: [bool; 20] = [
+    true, true, true, true, true, true, true, true, true, true, false, false, false, false, false,
+    false, false, false, false, false,
+];
+
+>>>>>>> theirs
 impl Settings {
     pub const MAX_CARDS: usize = 10;
 
@@ -65,12 +80,12 @@ pub fn fits(rack: Rack, q: usize) -> bool
     q < rack.n
 }
 
-// Which of the ten cards fit.
-#[tactic(auto, unfolding(ground::specs::Lists::table))]
+// Which of the ten cards fit: the ten places from 10 - n on of ten that fit and ten that do not.
 pub fn fitted(rack: Rack) -> [bool; Settings::MAX_CARDS]
     ensures { result ≡ table most_cards 0 (fits rack) }
 {
-    std::array::from_fn(|q| fits(rack, q))
+    let from = Settings::MAX_CARDS - cards(rack).min(Settings::MAX_CARDS);
+    std::array::from_fn(move |q| TEN[from + q])
 }
 
 // Whether a rack is refused: `Err` where it is.
