@@ -2,11 +2,12 @@
 
 #![tactic(auto)]
 
-ghost use Rattle.std.specs.Prelude.{◌*◌, ◌<◌, ◌≡◌, ◌&&◌, eqb, ltb, length};
+ghost use Rattle.std.specs.Prelude.{◌≡◌, ◌≢◌, List, ℤ};
+ghost use Rattle.std.specs.Fn.{FnOnceReturnsAtMut};
 ghost use Rattle.ground.specs.Checks.{verdict};
-ghost use Rattle.ground.specs.Answer.{outcome, refusal_of, of_result};
-ghost use Rattle.settings.specs.Settings.{most_cards};
-ghost use Rattle.books.specs.Books.{book_words, books_words, books_checks};
+ghost use Rattle.ground.specs.Answer.{refused, outcome, refusal_of, of_result};
+ghost use Rattle.ground.specs.Lists.{part, with_part};
+ghost use Rattle.books.specs.Books.{book_words, books_checks};
 ghost use Rattle.books.specs.Asked.{books_open_asked, books_enter_asked, books_refill_asked, books_frame_asked};
 
 use book::BOOK;
@@ -28,51 +29,39 @@ pub fn books_refused(s: Settings, books: &[i32]) -> Result<(), Refusal>
     )
 }
 
-// Whether there is a part for the sender. If so, the part's call sees to the rest; if not, the long list's is refused.
-fn has_part(s: Settings, books: &[i32]) -> bool
-    ensures { result ≡ (ltb s.t most_cards && eqb (length books.now) books_words) }
+// The call on the sender's part of the long list, unless that is refused.
+fn on_part<F: FnOnce(&mut [i32]) -> Result<(), Refusal>>(
+    s: Settings,
+    books: &mut [i32],
+    call: F,
+) -> Result<(), Refusal>
+    requires { F.IsAlwaysCallable call }
+    ensures refused { verdict (books_checks s books.old) ≢ 0 → outcome (of_result result) books.new ≡ outcome (refused (verdict (books_checks s books.old))) books.old }
+    ensures called { verdict (books_checks s books.old) ≡ 0 → Σ (List ℤ) (λ new. FnOnceReturnsAtMut F.FnOnce call (part book_words s.t books.old) result new × (books.new ≡ with_part book_words s.t books.old new)) }
 {
-    (s.t < Settings::MAX_CARDS) & (books.len() == BOOKS)
-}
-
-// Where the sender's part starts.
-fn start_of(s: Settings) -> usize
-    requires { s.t < most_cards }
-    ensures { result ≡ book_words * s.t }
-{
-    BOOK * s.t
+    books_refused(s, books)?;
+    let from = BOOK * s.t;
+    call(&mut books[from..from + BOOK])
 }
 
 pub fn open(s: Settings, books: &mut [i32]) -> Result<(), Refusal>
     ensures { outcome (of_result result) books.new ≡ books_open_asked s books.old }
 {
-    if !has_part(s, books) {
-        return books_refused(s, books);
-    }
-    let from = start_of(s);
-    book::open_part(s, &mut books[from..from + BOOK])
+    on_part(s, books, |part| book::open_part(s, part))
 }
 
 // Enters a word at a slot.
 pub fn enter(s: Settings, books: &mut [i32], slot: usize, word: i32) -> Result<(), Refusal>
     ensures { outcome (of_result result) books.new ≡ books_enter_asked s books.old slot word }
 {
-    if !has_part(s, books) {
-        return books_refused(s, books);
-    }
-    let from = start_of(s);
-    entering::enter_part(s, &mut books[from..from + BOOK], slot, word)
+    on_part(s, books, |part| entering::enter_part(s, part, slot, word))
 }
 
 // Makes every live vote of the sender's book again from the words.
 pub fn refill(s: Settings, books: &mut [i32]) -> Result<(), Refusal>
     ensures { outcome (of_result result) books.new ≡ books_refill_asked s books.old }
 {
-    if !has_part(s, books) {
-        return books_refused(s, books);
-    }
-    let from = start_of(s);
-    refilling::refill_part(s, &mut books[from..from + BOOK])
+    on_part(s, books, |part| refilling::refill_part(s, part))
 }
 
 // Enters a frame, where `current` is the exchange number.
@@ -81,6 +70,6 @@ pub fn enter_frame(s: Settings, books: &mut [i32], current: u16, bytes: &[u8]) -
 {
     match arrivals::arrival(s, current, bytes) {
         Ok(Entry { slot, word }) => enter(s, books, slot, word),
-        Err(late) => refusal::first(books_refused(s, books), Err(late)),
+        Err(reason) => refusal::first(books_refused(s, books), Err(reason)),
     }
 }

@@ -34,21 +34,6 @@ pub struct Settings {
     pub p: usize,
 }
 
-<<<<<<< ours
-=======
-#[derive(Clone, Copy)]
-pub enum Checked {
-    Good(Settings),
-    Refused(u8),
-}
-
-// Ten cards that fit, then ten that do not.
-const TEN: [bool; 20] = [
-    true, true, true, true, true, true, true, true, true, true, false, false, false, false, false,
-    false, false, false, false, false,
-];
-
->>>>>>> theirs
 impl Settings {
     pub const MAX_CARDS: usize = 10;
 
