@@ -34,6 +34,12 @@ pub struct Settings {
     pub p: usize,
 }
 
+// Ten cards that fit, then ten that do not.
+const TEN: [bool; 20] = [
+    true, true, true, true, true, true, true, true, true, true, false, false, false, false, false,
+    false, false, false, false, false,
+];
+
 impl Settings {
     pub const MAX_CARDS: usize = 10;
 
