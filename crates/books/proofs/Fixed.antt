@@ -1,5 +1,4 @@
 -- Each public function's contract fixes its answer, and what the whole long list holds afterwards: two outcomes that it allows are equal.
-use Prim.Native.Nat.{ℕ}
 use mathlib.Core.Path.{sym, ◌∙◌}
 use mathlib.Core.List.{List}
 use lib.IntN.{ℤ}

@@ -1,20 +1,22 @@
 -- Laws of the long list: the sender's part as it is lent on and comes back, and that the part's call is the long list's.
-use Prim.Native.Nat.{ℕ, zero, suc, ◌+◌, ◌-◌, ◌*◌, ◌≤◌, ◌<◌}
+use Prim.Native.Nat.{ℕ, zero, suc, ◌+◌, ◌*◌, ◌≤◌, ◌<◌}
 use mathlib.Core.Path.{◌≡◌, refl, sym, ap, ap₂, ◌∙◌}
 use mathlib.Core.Logic.{◌≢◌}
-use mathlib.Core.Bool.{Bool, true, false, not, ◌&&◌, true≢false}
+use mathlib.Core.Bool.{not}
 use mathlib.Core.List.{List, ◌++◌}
 use native.Mathlib.Omega.{arith}
-use lib.Dec.{T, eqb, ltb, eqb→eq, ltb→lt}
+use native.Mathlib.Decide.{ℕ_discrete}
+use lib.Dec.{eqb, eqb→eq}
 use lib.IntN.{ℤ}
-use lib.ListN.{length, take, drop, take-append-drop, length-append}
-use borrow.Author.Tests.{eq-eqb, lt-ltb}
+use lib.ListN.{length, take-append-drop, length-append}
+use borrow.Author.Tests.{eq-eqb}
 use Rattle.ground.specs.Checks.{Check, verdict}
-use Rattle.ground.specs.Answer.{Answer, Outcome, outcome, answer, after, outcome_by}
+use Rattle.ground.specs.Answer.{Answer, refused, Outcome, outcome, answer, after, outcome_by}
+use Rattle.ground.proofs.Answers.{outcome-refused}
 use Rattle.ground.specs.Lists.{part, with_part}
-use Rattle.ground.proofs.Bools.{holds, and_left, and_right}
-use Rattle.ground.proofs.Parts.{part-kept, part_back, part-long, part_same, part-other, length_with}
-use Rattle.ground.proofs.Verdicts.{none-verdict, no_verdict, no_verdicts, rest_decides, first_decides, same_first}
+use Rattle.ground.proofs.Bools.{holds}
+use Rattle.ground.proofs.Parts.{part-kept, part-long, part_same, part-other, length_with}
+use Rattle.ground.proofs.Verdicts.{none-verdict, no_verdict, no_verdicts, rest_decides, first_decides, same_first, still_refused}
 use Rattle.settings.specs.Settings.{settings_checks}
 use Rattle.settings.specs.declared.Settings.{Settings}
 use Rattle.settings.proofs.Good.{settings_good, fits_ten}
@@ -31,11 +33,6 @@ pub record Has (t : ℕ) (l : List ℤ) : Type 0 where
   pub sender : t < 10
   pub long : length l ≡ 22220
 
-pub has_it : {t : ℕ} {l : List ℤ} → (ltb t 10 && eqb (length l) 22220) ≡ true → Has t l
-has_it {t} {l} e =
-    let h : T (ltb t 10 && eqb (length l) 22220) = rw e tt in
-    record { sender = ltb→lt t 10 (and_left (ltb t 10) _ h); long = eqb→eq _ _ (and_right (ltb t 10) _ h) }
-
 -- a call that is not refused has its part
 pub asked_has : (s : Settings) (l : List ℤ) → verdict (books_checks s l) ≡ 0 → Has s.t l
 asked_has s l e =
@@ -45,13 +42,6 @@ asked_has s l e =
 
 pub good_has : (s : Settings) (l : List ℤ) → verdict (settings_checks s) ≡ 0 → length l ≡ 22220 → Has s.t l
 good_has s l good long = asked_has s l (rest_decides (settings_checks s) _ tt good ∙ none-verdict _ (ap not (eq-eqb (length l) 22220 long), tt))
-
--- and so one that has none is refused
-pub has_not : (s : Settings) (l : List ℤ) → (ltb s.t 10 && eqb (length l) 22220) ≡ false → verdict (books_checks s l) ≡ 0 → ⊥
-has_not s l e z =
-    let h = asked_has s l z in
-    let w : ◌≡◌ {A = Bool} true false = sym (rw (lt-ltb s.t 10 h.sender, eq-eqb (length l) 22220 h.long) refl) ∙ e in
-    true≢false w
 
 module _ {t : ℕ} {l : List ℤ} (h : Has t l) where
   pub part_in : 2222 * t + 2222 ≤ length l
@@ -97,9 +87,9 @@ module _ {t : ℕ} {l : List ℤ} (h : Has t l) where
   same_then s cs = same_first (book_checks s (book_from t l)) (books_checks s l) cs tt tt (same-verdict s)
 
   -- what it yields, and the part that it leaves in place of the old one
-  pub part_call : (made : Book) (new : List ℤ) (v : ℕ) {v' from : ℕ} {y : Answer (Unit {0})} → from ≡ 2222 * t → outcome y (halves new) ≡ outcome_by v (book_from t l) made → v ≡ v' → outcome y (take from l ++ (new ++ drop (from + 2222 - from) (drop from l))) ≡ outcome_by v' l (with_book t l made)
+  part_call : (made : Book) (new : List ℤ) (v : ℕ) {v' : ℕ} {y : Answer (Unit {0})} → outcome y (halves new) ≡ outcome_by v (book_from t l) made → v ≡ v' → outcome y (with_part 2222 t l new) ≡ outcome_by v' l (with_book t l made)
   unfolding outcome_by after
-  part_call made new v {y = y} e o same = rw (← same, part_back 2222 t l e new) (go v o)
+  part_call made new v {y = y} o same = rw (← same) (go v o)
     where
       joined_again : with_part 2222 t l new ≡ with_book t l (halves new)
       joined_again = ap (with_part 2222 t l) (sym (take-append-drop 1111 new))
@@ -107,3 +97,18 @@ module _ {t : ℕ} {l : List ℤ} (h : Has t l) where
       go : (v : ℕ) → outcome y (halves new) ≡ outcome (answer v tt) (after v (book_from t l) made) → outcome y (with_part 2222 t l new) ≡ outcome (answer v tt) (after v l (with_book t l made))
       go zero o = ap₂ outcome (ap (λ (o : Outcome (Answer (Unit {0})) Book). o.yields) o) (joined_again ∙ ap (λ (o : Outcome (Answer (Unit {0})) Book). with_book t l o.leaves) o)
       go (suc k) o = ap₂ outcome (ap (λ (o : Outcome (Answer (Unit {0})) Book). o.yields) o) (joined_again ∙ ap (λ (o : Outcome (Answer (Unit {0})) Book). with_book t l o.leaves) o ∙ with_same)
+
+-- a call by `on_part`, for which the part's call is a book's with these checks after its own
+pub by_part : (s : Settings) (l : List ℤ) (cs : List Check) (made : Book) {y : Answer (Unit {0})} {left : List ℤ} {Returns : List ℤ → Type 0} →
+    (verdict (books_checks s l) ≢ 0 → outcome y left ≡ outcome (refused (verdict (books_checks s l))) l) →
+    (verdict (books_checks s l) ≡ 0 → (new : List ℤ) × Returns new × (left ≡ with_part 2222 s.t l new)) →
+    ((new : List ℤ) → Returns new → outcome y (halves new) ≡ outcome_by (verdict (book_checks s (book_from s.t l) ++ cs)) (book_from s.t l) made) →
+    outcome y left ≡ outcome_by (verdict (books_checks s l ++ cs)) l (with_book s.t l made)
+by_part s l cs made {y} {left} none called told = go (ℕ_discrete (verdict (books_checks s l)) 0)
+  where
+    go : Dec (verdict (books_checks s l) ≡ 0) → outcome y left ≡ outcome_by (verdict (books_checks s l ++ cs)) l (with_book s.t l made)
+    go (yes z) =
+        let part = called z in
+        let has = asked_has s l z in
+        ap (outcome y) part.2 ∙ part_call has made part.0 (verdict (book_checks s (book_from s.t l) ++ cs)) (told part.0 part.1) (same_then has s cs)
+    go (no n) = none n ∙ outcome-refused (still_refused (books_checks s l) cs tt refl n) n l _

@@ -37,7 +37,7 @@ fn on_part<F: FnOnce(&mut [i32]) -> Result<(), Refusal>>(
 ) -> Result<(), Refusal>
     requires { F.IsAlwaysCallable call }
     ensures refused { verdict (books_checks s books.old) ≢ 0 → outcome (of_result result) books.new ≡ outcome (refused (verdict (books_checks s books.old))) books.old }
-    ensures called { verdict (books_checks s books.old) ≡ 0 → Σ (List ℤ) (λ new. FnOnceReturnsAtMut F.FnOnce call (part book_words s.t books.old) result new × (books.new ≡ with_part book_words s.t books.old new)) }
+    ensures called { verdict (books_checks s books.old) ≡ 0 → (new : List ℤ) × FnOnceReturnsAtMut F.FnOnce call (part book_words s.t books.old) result new × (books.new ≡ with_part book_words s.t books.old new) }
 {
     books_refused(s, books)?;
     let from = BOOK * s.t;
@@ -65,7 +65,12 @@ pub fn refill(s: Settings, books: &mut [i32]) -> Result<(), Refusal>
 }
 
 // Enters a frame, where `current` is the exchange number.
-pub fn enter_frame(s: Settings, books: &mut [i32], current: u16, bytes: &[u8]) -> Result<(), Refusal>
+pub fn enter_frame(
+    s: Settings,
+    books: &mut [i32],
+    current: u16,
+    bytes: &[u8],
+) -> Result<(), Refusal>
     ensures { outcome (of_result result) books.new ≡ books_frame_asked s books.old current bytes.now }
 {
     match arrivals::arrival(s, current, bytes) {
