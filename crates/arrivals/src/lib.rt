@@ -16,6 +16,7 @@ use ground::refusal::Refusal;
 use settings::Settings;
 
 // Whether a frame is old, ahead or another book's.
+#[tactic(auto, unfolding(ground::specs::Checks::verdict))]
 fn untimely(s: Settings, current: u16, f: Frame) -> Result<(), Refusal>
     ensures { refusal_of result ≡ verdict (timely_checks s current f) }
 {

@@ -41,6 +41,7 @@ impl Frame {
 }
 
 // A relay at its place, from 1.
+#[tactic(auto, unfolding(crate::specs::Frame::relay_formed))]
 fn relay_formed(level: u8, place: u8, q: u8) -> bool
     ensures { result ≡ relay_formed level place q }
 {
@@ -52,6 +53,7 @@ fn relay_formed(level: u8, place: u8, q: u8) -> bool
 }
 
 // All is looked at: no branch.
+#[tactic(auto, unfolding(crate::specs::Frame::well_formed))]
 fn well_formed(f: Frame) -> bool
     ensures { result ≡ well_formed f }
 {
