@@ -10,8 +10,7 @@ ghost use Rattle.trials.specs.Accepting.{Accepted};
 
 mod page;
 
-use bound::Bounded;
-use files::{Head, Headed};
+use files::Head;
 use page::Page;
 use settings::Settings;
 use words::E;
@@ -32,7 +31,7 @@ fn cards(file: &[u8], h: Head, last: &[u8]) -> Page
     let mut table = [E; exchange::TABLE];
     files::tell(file, &mut table);
     let mut answers = [E; Settings::MAX_CARDS];
-    bench::all_answers(turn, h.x, &file[8..18], &table, &mut answers);
+    let _ = bench::all_answers(turn, h.x, &file[8..18], &table, &mut answers);
     let mut page = Page::lines(turn.rack, &file[8..18], &answers);
     page.put(last);
     page
@@ -45,9 +44,9 @@ fn listed(file: &[u8], h: Head) -> Page
 {
     let turn = h.turn;
     match bound::bound(turn.rack, &file[8..18]) {
-        Bounded::Held => cards(file, h, &HELD),
-        Bounded::NotHeld => cards(file, h, &NOT_HELD),
-        Bounded::Refused(no) => Page::refused(no),
+        Ok(true) => cards(file, h, &HELD),
+        Ok(false) => cards(file, h, &NOT_HELD),
+        Err(refusal) => Page::refused(refusal),
     }
 }
 
@@ -55,8 +54,8 @@ fn text_of(file: &[u8]) -> Page
     ensures { result ≡ text_of file.now }
 {
     match files::read(file) {
-        Headed::Refused(no) => Page::refused(no),
-        Headed::Head(h) => listed(file, h),
+        Ok(h) => listed(file, h),
+        Err(refusal) => Page::refused(refusal),
     }
 }
 

@@ -3,12 +3,14 @@
 #![tactic(auto, using(crate::proofs::Lines::steps), unfolding(crate::specs::Listing::line_of, crate::specs::Listing::lines, crate::specs::Listing::refused_line))]
 
 ghost use Rattle.std.specs.Prelude.{◌≡◌, [], ◌++◌, ℕ, ◌+◌, ◌≤◌, ◌<◌, List, take, drop, length, get_or};
+ghost use Rattle.ground.specs.Refusal.{number};
 ghost use Rattle.text.specs.Decimal.{decimal_of};
 ghost use Rattle.settings.specs.Settings.{most_cards, fits};
 ghost use Rattle.trials.specs.Listing.{answer_text, line_of, line_at, lines, refused_line};
 ghost use Rattle.trials.specs.declared.TheConstants.{TEXT};
 
 use crate::TEXT;
+use ground::refusal::Refusal;
 use settings::{Rack, Settings};
 use std::marker::Model;
 use words::E;
@@ -97,12 +99,12 @@ impl Page {
         page
     }
 
-    pub(crate) fn refused(no: u8) -> Page
-        ensures { result ≡ refused_line no }
+    pub(crate) fn refused(refusal: Refusal) -> Page
+        ensures { result ≡ refused_line (number refusal) }
     {
         let mut page = Page::new();
         page.put(&REFUSED);
-        page.put_word(no as i32);
+        page.put_word(refusal.number() as i32);
         page.put(&ENDING);
         page
     }
