@@ -5,9 +5,6 @@ use mathlib.Core.List.{List}
 use lib.IntN.{ℤ}
 use Rattle.ground.specs.Answer.{Outcome, outcome}
 use Rattle.ground.specs.Fixes.{Fixes}
-use Rattle.std.specs.Prelude.{Result}
-use Rattle.ground.specs.declared.refusal.Refusal.{Refusal}
-use Rattle.ground.proofs.Answers.{refusal_apart}
 use Rattle.book.specs.Book.{Book, book_of}
 use Rattle.omh.proofs.omh_read_at.Kinds as omh_read_at
 use Rattle.omh.proofs.omh_read_at.Reads as omh_read_at_says

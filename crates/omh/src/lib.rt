@@ -121,7 +121,10 @@ pub fn omh_slot_above(slot: usize, above: &mut usize) -> u8
 pub fn omh_is_live(n: usize, m: usize, t: usize, p: usize, slot: usize, live: &mut i32) -> u8
     ensures { outcome result live.new ≡ placed_as bit (live_asked (settings n m t p) slot) live.old }
 {
-    place(paths::is_live(settings_of(n, m, t, p), slot).map(i32::from), live)
+    place(
+        paths::is_live(settings_of(n, m, t, p), slot).map(i32::from),
+        live,
+    )
 }
 
 // ---- the vote

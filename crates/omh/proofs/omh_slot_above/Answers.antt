@@ -1,6 +1,0 @@
--- `omh::omh_slot_above` meets its contract: the slot in its place, or the refusal.
-use Rattle.omh.proofs.Numbers.{in_place}
-use Rattle.omh.proofs.omh_slot_above.Goals as goal
-
-pub returns : goal.returns
-returns c = in_place _ _ c.place_slot.ensures c.slot_above.ensures
