@@ -31,6 +31,7 @@ fn cards(file: &[u8], h: Head, last: &[u8]) -> Page
     let mut table = [E; exchange::TABLE];
     files::tell(file, &mut table);
     let mut answers = [E; Settings::MAX_CARDS];
+    // The exchange of a file that is not refused is not refused either.
     let _ = bench::all_answers(turn, h.x, &file[8..18], &table, &mut answers);
     let mut page = Page::lines(turn.rack, &file[8..18], &answers);
     page.put(last);

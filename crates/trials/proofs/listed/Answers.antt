@@ -1,7 +1,6 @@
 -- `trials::listed` meets its contract: each answer gives the card lines and then its own, and a file that is not refused has one.
-use mathlib.Core.Path.{sym, ap, ◌∙◌}
+use mathlib.Core.Path.{◌∙◌}
 use native.Mathlib.Omega.{arith}
-use Rattle.bound.specs.Bound.{of_bounded}
 use Rattle.files.proofs.Good.{file_good}
 use Rattle.trials.specs.Listing.{bound_line}
 use Rattle.trials.proofs.Asking.{bound_given}
@@ -12,17 +11,17 @@ pub slice_bounds-bound-end : goal.slice_bounds-bound-end
 slice_bounds-bound-end c =
     omega (arith, (file_good c.args.file.now c.requires.passes).head)
 
-pub returns-in-Held : goal.returns-in-Held
+pub returns-in-Ok-true : goal.returns-in-Ok-true
 unfolding bound_line
-returns-in-Held c =
-    c.cards.ensures ∙ listed_as c.args.file.now c.requires (sym (ap of_bounded c.in-Held.is) ∙ c.bound.ensures)
+returns-in-Ok-true c =
+    c.cards.ensures ∙ listed_as c.args.file.now c.requires (rw c.in-Ok-true.field-0-test at c.in-Ok-true.ensures)
 
-pub returns-in-NotHeld : goal.returns-in-NotHeld
+pub returns-in-Ok-false : goal.returns-in-Ok-false
 unfolding bound_line
-returns-in-NotHeld c =
-    c.cards-in-NotHeld.ensures ∙ listed_as c.args.file.now c.requires (sym (ap of_bounded c.in-NotHeld.is) ∙ c.bound.ensures)
+returns-in-Ok-false c =
+    c.cards-in-Ok-false.ensures ∙ listed_as c.args.file.now c.requires (rw c.in-Ok-false.field-0-test at c.in-Ok-false.ensures)
 
 -- it cannot be refused
-pub returns-in-Refused : goal.returns-in-Refused
-returns-in-Refused c =
-    absurd (bound_given c.args.file.now c.requires (sym (ap of_bounded c.in-Refused.is) ∙ c.bound.ensures))
+pub returns-in-Err : goal.returns-in-Err
+returns-in-Err c =
+    absurd (bound_given c.args.file.now c.requires c.in-Err.ensures)
