@@ -1,8 +1,9 @@
 -- Each public function's contract fixes its answer and the lists that it is lent: two outcomes that it allows are equal.
 use mathlib.Core.Path.{sym, ◌∙◌}
+use lib.IntN.{ℤ}
+use Rattle.std.specs.Prelude.{Result}
 use Rattle.ground.specs.Answer.{Outcome, outcome}
 use Rattle.ground.specs.Fixes.{Fixes}
-use Rattle.std.specs.Prelude.{Result}
 use Rattle.ground.specs.declared.refusal.Refusal.{Refusal}
 use Rattle.ground.proofs.Answers.{result_apart, outcome_apart}
 use Rattle.book.specs.Book.{Book, book_of}

@@ -37,7 +37,13 @@ fn dealt_at(t: usize, x: i32, statuses: &[u8], table: &[i32], k: usize, p: usize
 }
 
 // The word that the own card receives on the path at a slot.
-pub fn word_for(s: Settings, x: i32, statuses: &[u8], table: &[i32], slot: usize) -> Result<i32, Refusal>
+pub fn word_for(
+    s: Settings,
+    x: i32,
+    statuses: &[u8],
+    table: &[i32],
+    slot: usize,
+) -> Result<i32, Refusal>
     ensures { of_result result ≡ word_asked s x statuses.now table.now slot }
 {
     let mut members = paths::may_relay(s);

@@ -4,7 +4,7 @@ use mathlib.Core.Bool.{◌&&◌}
 use lib.IntN.{ℤ}
 use Rattle.ground.specs.Checks.{verdict}
 use Rattle.ground.proofs.Bits.{back_is}
-use Rattle.ground.proofs.Answers.{outcome-refused}
+use Rattle.ground.proofs.Answers.{leaves_outcome}
 use Rattle.settings.specs.Settings.{turn_of}
 use Rattle.vote.specs.Vote.{rule_of}
 use Rattle.book.specs.Book.{book_of}
@@ -14,25 +14,27 @@ use Rattle.dealing.specs.Asked.{fill_checks, fill_asked}
 use Rattle.exchange.proofs.Asking.{deals, own-card, card-verdict}
 use Rattle.dealing.proofs.Filling.{fill-asked, filling}
 use Rattle.dealing.proofs.fill.Goals as goal
-use Rattle.dealing.proofs.fill.Goals.{After-card_refused-no}
+use Rattle.dealing.proofs.fill.Goals.{In_ok-card_refused}
 
-told : (c : After-card_refused-no) → let a = c.args in c.card_refused-no.result ≡ verdict (fill_checks a.s a.x a.statuses.now a.table.now (book_of a.words.now a.votes.now))
-told c =
-    card-verdict c.args.s c.args.statuses.now c.ranges.x (ap₂ ◌&&◌ c.inputs_long.ensures c.is_whole.ensures) c.card_refused-no.ensures
-
-pub returns-then-no-ne0 : goal.returns-then-no-ne0
+pub returns-in_err-card_refused : goal.returns-in_err-card_refused
 unfolding fill_asked
-returns-then-no-ne0 c = outcome-refused (told (goal.at.returns-then-no-ne0 c).After-card_refused-no) c.if-no-ne0.true _ _
+returns-in_err-card_refused c =
+    leaves_outcome _ _ c.from_residual.ensures.1 (card-verdict c.args.s c.args.statuses.now c.ranges.x (ap₂ ◌&&◌ c.inputs_long.ensures c.is_whole.ensures) c.in_err-card_refused.ensures) _ _
+
+-- no refusal
+passes : (c : In_ok-card_refused) → let a = c.args in verdict (fill_checks a.s a.x a.statuses.now a.table.now (book_of a.words.now a.votes.now)) ≡ 0
+passes c =
+    sym (card-verdict c.args.s c.args.statuses.now c.ranges.x (ap₂ ◌&&◌ c.inputs_long.ensures c.is_whole.ensures) c.in_ok-card_refused.ensures)
 
 pub deal-requires : goal.deal-requires
 deal-requires c =
     let a = c.args in
-    let given = fill-asked a.s a.x a.statuses.now a.table.now (book_of a.words.now a.votes.now) (sym (told (goal.at.deal-requires c).After-card_refused-no) ∙ c.if-no-ne0.false) in
+    let given = fill-asked a.s a.x a.statuses.now a.table.now (book_of a.words.now a.votes.now) (passes (goal.at.deal-requires c).In_ok-card_refused) in
     (deals _ a.statuses.now a.table.now given.0.turn given.1, given.0.turn.rack.deep, own-card a.s given.0, given.2.words_long)
 
 pub returns : goal.returns
 returns c =
     let a = c.args in
     c.refill.ensures
-    ∙ filling a.s a.x a.statuses.now a.table.now (book_of a.words.now a.votes.now) (sym (told (goal.at.returns c).After-card_refused-no) ∙ c.if-no-ne0.false)
+    ∙ filling a.s a.x a.statuses.now a.table.now (book_of a.words.now a.votes.now) (passes (goal.at.returns c).In_ok-card_refused)
     (c.deal.ensures ∙ ap (λ (x : ℤ). dealt_over (rule_of a.s.rack) (exchange (turn_of a.s) x a.statuses.now a.table.now) a.s.p a.words.now) (back_is c.ranges.x))
