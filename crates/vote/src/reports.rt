@@ -1,4 +1,4 @@
-// The reports from which a vote is decided: the own one, and one from each card that lengthens the path. A struck report is left out: the next takes its place.
+// The reports from which a vote is decided: the own one, and one from each card that lengthens the path.
 
 ghost use Rattle.std.specs.Prelude.{◌≡◌, ◌≤◌, List, [], ◌∷◌, ◌++◌, ℤ, length, take};
 ghost use Rattle.words.specs.Word.{wrapped};
@@ -13,10 +13,11 @@ use std::marker::Model;
 // An own report, and one from each of the ten cards.
 const REPORTS: usize = Settings::MAX_CARDS + 1;
 
+// The number comes first: so the compiler sees that a report which is written leaves it.
 #[derive(Drop)]
 pub struct Reports {
-    list: [i32; REPORTS],
     count: usize,
+    list: [i32; REPORTS],
 }
 
 impl Model for Reports {
@@ -35,12 +36,12 @@ impl Reports {
     {
         let wrapped = words::wrap(own);
         Reports {
-            list: [wrapped; REPORTS],
             count: words::weight(wrapped),
+            list: [wrapped; REPORTS],
         }
     }
 
-    // Adds a report, unless there is one of each card.
+    // Adds a report, where there is room. A struck one is left out: the next takes its place.
     #[inline]
     pub fn add(&mut self, vote: i32)
         ensures { self.new ≡ take most_reports (self.old ++ kept omh.struck (vote ∷ [])) }
