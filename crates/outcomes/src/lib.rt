@@ -2,18 +2,18 @@
 
 #![tactic(auto)]
 
-ghost use Rattle.std.specs.Prelude.{◌≡◌};
+ghost use Rattle.std.specs.Prelude.{◌≡◌, ◌<◌, OnOk};
 ghost use Rattle.ground.specs.Answer.{outcome as outcome_spec, refusal_of, of_result};
+ghost use Rattle.settings.specs.Settings.{most_cards};
 ghost use Rattle.outcomes.specs.Rows.{start};
 ghost use Rattle.outcomes.specs.Asked.{row_made, row_asked, start_asked, list_asked};
 
-use ground::refusal;
 use ground::refusal::Refusal;
 use settings::{Settings, Turn};
 use words::E;
 
 // The words of an outcome that is lent as a list, row after row.
-const LIST: usize = Settings::MAX_CARDS * Settings::MAX_CARDS;
+const LIST: usize = 100;
 
 // All E.
 pub fn start() -> [[i32; Settings::MAX_CARDS]; Settings::MAX_CARDS]
@@ -29,7 +29,8 @@ fn row_for(
     statuses: &[u8],
     table: &[i32],
 ) -> Result<[i32; Settings::MAX_CARDS], Refusal>
-    ensures { of_result result ≡ row_made turn x statuses.now table.now }
+    ensures row { of_result result ≡ row_made turn x statuses.now table.now }
+    ensures sender { OnOk result (turn.t < most_cards) }
 {
     let mut row = [E; Settings::MAX_CARDS];
     bench::all_answers(turn, x, statuses, table, &mut row)?;
@@ -43,13 +44,15 @@ pub fn set_row(
     statuses: &[u8],
     table: &[i32],
     mut outcome: [[i32; Settings::MAX_CARDS]; Settings::MAX_CARDS],
-) -> ([[i32; Settings::MAX_CARDS]; Settings::MAX_CARDS], Result<(), Refusal>)
+) -> (
+    [[i32; Settings::MAX_CARDS]; Settings::MAX_CARDS],
+    Result<(), Refusal>,
+)
     ensures { outcome_spec (refusal_of result.1) result.0 ≡ row_asked turn x statuses.now table.now outcome }
 {
     match row_for(turn, x, statuses, table) {
         Ok(row) => {
-            let t = turn.t;
-            outcome[t] = row;
+            outcome[turn.t] = row;
             (outcome, Ok(()))
         }
         Err(refusal) => (outcome, Err(refusal)),
@@ -60,7 +63,9 @@ pub fn set_row(
 pub fn start_list(list: &mut [i32]) -> Result<(), Refusal>
     ensures { outcome_spec (of_result result) list.new ≡ start_asked list.old }
 {
-    refusal::when(list.len() != LIST, Refusal::Long)?;
+    if list.len() != LIST {
+        return Err(Refusal::Long);
+    }
     list.fill(E);
     Ok(())
 }
@@ -75,9 +80,10 @@ pub fn set_in_list(
 ) -> Result<(), Refusal>
     ensures { outcome_spec (of_result result) list.new ≡ list_asked turn x statuses.now table.now list.old }
 {
-    // The list's length is judged with the inputs', after the settings and before statuses and value.
+    settings::turn_refused(turn)?;
+    // The list's length is judged with the inputs', before statuses and value.
     if list.len() != LIST {
-        return refusal::first(settings::turn_refused(turn), Err(Refusal::Long));
+        return Err(Refusal::Long);
     }
     let row = row_for(turn, x, statuses, table)?;
     let first = Settings::MAX_CARDS * turn.t;
