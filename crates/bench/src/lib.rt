@@ -26,7 +26,8 @@ fn sent_to(status: u8, word: i32, table: &[i32], k: usize, p: usize) -> i32
     exchange::sent_by(status, word, table[first + p], table[first])
 }
 
-// The vote of card p at slot k of level d, on which a card of this status sends, `word` if it is good. So many rounds are left; `members` are the cards that may still relay.
+// The vote of card p at slot k of level d, on which a card of this status sends, `word` if it is good. So many rounds are left; `members` are the cards that may still relay. Inline, so that a vote without longer paths costs the loop no call.
+#[inline(always)]
 #[cycle(over_dealt_vote_dealt)]
 fn vote_dealt(
     statuses: &[u8],
@@ -112,22 +113,15 @@ fn dealt_answer(s: Settings, x: i32, statuses: &[u8], table: &[i32]) -> i32
 {
     let mut members = paths::may_relay(s);
     let left = paths::rounds_left(s, 0);
-    let t = s.t;
-    let status = statuses[t];
-    let own = words::read_at(0, sent_to(status, x, table, 0, s.p));
-    if left == 0 {
-        return own;
-    }
-    over_dealt(
+    vote_dealt(
         statuses,
         table,
         s.p,
         &mut members,
-        own,
-        left - 1,
+        left,
         0,
         0,
-        status,
+        statuses[s.t],
         x,
     )
 }

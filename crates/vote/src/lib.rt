@@ -17,7 +17,8 @@ use settings::Settings;
 
 pub mod reports;
 
-// The vote at slot k of level d with so many rounds left; `members` are the cards that may still relay.
+// The vote at slot k of level d with so many rounds left; `members` are the cards that may still relay. Inline, so that a vote without longer paths costs the loop no call.
+#[inline(always)]
 #[cycle(instance_over_members)]
 fn instance(
     words: &[i32],
@@ -72,12 +73,7 @@ fn vote_of(
     ensures { result ≡ vote (rule_of s.rack) s words.now slot }
 {
     let d = paths::level_of(slot);
-    let left = paths::rounds_left(s, d);
-    let own = words::read_at(d, words[slot]);
-    if left == 0 {
-        return own;
-    }
-    over_members(words, members, own, left - 1, d, slot)
+    instance(words, members, paths::rounds_left(s, d), d, slot)
 }
 
 // Whether a call over words is refused.
