@@ -1,15 +1,15 @@
 -- Demand 1: bad input gets the refusal number of document 01's table, by the stated order of checks (`Orders.antt`); no refusal is given on other grounds; a refusal changes nothing that is lent. A theorem to an entry point, of every call that its contract allows: argument i is `a` with i times `.1` and then `.0`, and a lent list at exit the same of `s`.
-use Rattle.ground.specs.Answer.{of_result, of_result}
+use Rattle.ground.specs.Answer.{refusal_of, of_result}
 use Rattle.ground.specs.Fixes.{Allows}
 use Rattle.settings.specs.Settings.{rack_checks, turn_checks, settings_checks}
-use Rattle.settings.specs.Asked.{of_result, settings}
-use Rattle.paths.specs.Asked.{of_result, of_result, path_checks, slot_asked, above_checks, above_asked, live_asked}
+use Rattle.settings.specs.Asked.{settings}
+use Rattle.paths.specs.Asked.{path_checks, slot_asked, above_checks, above_asked, live_asked}
 use Rattle.vote.specs.Asked as vote
 use Rattle.vote.specs.Asked.{words_checks, vote_checks, vote_asked}
 use Rattle.book.specs.Book.{book_of, halves}
 use Rattle.book.specs.Asked.{book_checks, slot_checks, held_checks}
-use Rattle.frames.specs.Asked.{of_result, read_checks, read_asked, write_checks, write_asked}
-use Rattle.arrivals.specs.Entry.{of_result, entry_checks, entry_asked, arrival_checks, frame_asked}
+use Rattle.frames.specs.Asked.{read_checks, read_asked, write_checks, write_asked}
+use Rattle.arrivals.specs.Entry.{frame_checks, entry_checks, entry_asked, arrival_asked, arrival_checks, frame_asked}
 use Rattle.books.specs.Books.{books_checks, books_slot_checks}
 use Rattle.books.specs.Asked.{books_open_asked, books_enter_asked, books_refill_asked, books_frame_checks, books_frame_asked}
 use Rattle.exchange.specs.Asked.{status_checks, value_checks}
@@ -17,8 +17,8 @@ use Rattle.bench.specs.Asked as bench
 use Rattle.bench.specs.Asked.{answer_checks, answers_checks, answers_asked}
 use Rattle.outcomes.specs.Asked.{row_checks, row_asked, start_checks, start_asked, list_checks, list_asked}
 use Rattle.dealing.specs.Asked.{word_checks, word_asked, fill_checks, fill_asked}
-use Rattle.bound.specs.Bound.{of_result, bound_checks, bound_asked}
-use Rattle.files.specs.File.{of_result, file_checks, file_asked}
+use Rattle.bound.specs.Bound.{bound_checks, bound_asked}
+use Rattle.files.specs.File.{file_checks, file_asked}
 use Rattle.demands.specs.Refusing.{Refuses, Numbers, Judged, Counted}
 use Rattle.demands.proofs.Order.{by_answer, by_outcome, by_part, by_state, by_verdict}
 use Rattle.settings.proofs.Settings.new.Kinds as new
@@ -61,6 +61,8 @@ use Rattle.arrivals.proofs.enter.Kinds as enter_frame
 use Rattle.arrivals.proofs.enter.Reads as enter_frame_says
 use Rattle.arrivals.proofs.entry_of.Kinds as entry_of
 use Rattle.arrivals.proofs.entry_of.Reads as entry_of_says
+use Rattle.arrivals.proofs.arrival.Kinds as arrival
+use Rattle.arrivals.proofs.arrival.Reads as arrival_says
 use Rattle.books.proofs.enter_frame.Kinds as books_enter_frame
 use Rattle.books.proofs.enter_frame.Reads as books_enter_frame_says
 use Rattle.dealing.proofs.word_for.Kinds as word_for
@@ -185,6 +187,10 @@ pub entry_of_refuses : Allows 0 entry_of.ps entry_of.r entry_of_says.Post (λ κ
 unfolding entry_asked
 entry_of_refuses κs a x s p = by_answer _ _ p
 
+pub arrival_refuses : Allows 1 arrival.ps arrival.r arrival_says.Post (λ κs a x s. Judged (frame_checks a.0 a.1.0 a.1.1.0.now) (of_result x))
+unfolding arrival_asked
+arrival_refuses κs a x s p = by_answer _ _ p
+
 pub books_enter_frame_refuses : Allows 2 books_enter_frame.ps books_enter_frame.r books_enter_frame_says.Post (λ κs a x s. Refuses (books_frame_checks a.0 a.1.0.now a.1.1.0 a.1.1.1.0.now) (of_result x) a.1.0.now s.1.0.now)
 unfolding books_frame_asked
 books_enter_frame_refuses κs a x s p = by_outcome _ _ p
@@ -213,8 +219,8 @@ bound_refuses κs a x s p = by_answer _ _ p
 
 -- ---- the outcome
 
--- the number is what its place holds at exit; and where it is not 0, the outcome yielded is the one handed in
-pub set_row_refuses : Allows 3 set_row.ps set_row.r set_row_says.Post (λ κs a x s. Numbers (row_checks a.0 a.1.0 a.1.1.0.now a.1.1.1.0.now) s.1.1.1.1.1.0.now a.1.1.1.1.0 x)
+-- the number is that of the refusal beside the outcome; and where it is not 0, the outcome yielded is the one handed in
+pub set_row_refuses : Allows 2 set_row.ps set_row.r set_row_says.Post (λ κs a x s. Numbers (row_checks a.0 a.1.0 a.1.1.0.now a.1.1.1.0.now) (refusal_of x.1) a.1.1.1.1.0 x.0)
 unfolding row_asked
 set_row_refuses κs a x s p = by_state _ _ p
 
@@ -232,31 +238,31 @@ pub read_file_refuses : Allows 1 read_file.ps read_file.r read_file_says.Post (�
 unfolding file_asked
 read_file_refuses κs a x s p = by_answer _ _ p
 
--- ---- the refusal numbers themselves
+-- ---- the refusals themselves
 
-pub rack_refused_refuses : Allows 0 rack_refused.ps rack_refused.r rack_refused_says.Post (λ κs a x s. Counted (rack_checks a.0) x)
+pub rack_refused_refuses : Allows 0 rack_refused.ps rack_refused.r rack_refused_says.Post (λ κs a x s. Counted (rack_checks a.0) (refusal_of x))
 rack_refused_refuses κs a x s p = by_verdict _ p
 
-pub turn_refused_refuses : Allows 0 turn_refused.ps turn_refused.r turn_refused_says.Post (λ κs a x s. Counted (turn_checks a.0) x)
+pub turn_refused_refuses : Allows 0 turn_refused.ps turn_refused.r turn_refused_says.Post (λ κs a x s. Counted (turn_checks a.0) (refusal_of x))
 turn_refused_refuses κs a x s p = by_verdict _ p
 
-pub settings_refused_refuses : Allows 0 settings_refused.ps settings_refused.r settings_refused_says.Post (λ κs a x s. Counted (settings_checks a.0) x)
+pub settings_refused_refuses : Allows 0 settings_refused.ps settings_refused.r settings_refused_says.Post (λ κs a x s. Counted (settings_checks a.0) (refusal_of x))
 settings_refused_refuses κs a x s p = by_verdict _ p
 
-pub book_refused_refuses : Allows 2 book_refused.ps book_refused.r book_refused_says.Post (λ κs a x s. Counted (book_checks a.0 (book_of a.1.0.now a.1.1.0.now)) x)
+pub book_refused_refuses : Allows 2 book_refused.ps book_refused.r book_refused_says.Post (λ κs a x s. Counted (book_checks a.0 (book_of a.1.0.now a.1.1.0.now)) (refusal_of x))
 book_refused_refuses κs a x s p = by_verdict _ p
 
-pub part_refused_refuses : Allows 1 part_refused.ps part_refused.r part_refused_says.Post (λ κs a x s. Counted (book_checks a.0 (halves a.1.0.now)) x)
+pub part_refused_refuses : Allows 1 part_refused.ps part_refused.r part_refused_says.Post (λ κs a x s. Counted (book_checks a.0 (halves a.1.0.now)) (refusal_of x))
 part_refused_refuses κs a x s p = by_verdict _ p
 
-pub books_refused_refuses : Allows 1 books_refused.ps books_refused.r books_refused_says.Post (λ κs a x s. Counted (books_checks a.0 a.1.0.now) x)
+pub books_refused_refuses : Allows 1 books_refused.ps books_refused.r books_refused_says.Post (λ κs a x s. Counted (books_checks a.0 a.1.0.now) (refusal_of x))
 books_refused_refuses κs a x s p = by_verdict _ p
 
-pub bytes-refused_refuses : Allows 1 bytes_refused.ps bytes_refused.r bytes_refused_says.Post (λ κs a x s. Counted (read_checks a.0.now) x)
+pub bytes-refused_refuses : Allows 1 bytes_refused.ps bytes_refused.r bytes_refused_says.Post (λ κs a x s. Counted (read_checks a.0.now) (refusal_of x))
 bytes-refused_refuses κs a x s p = by_verdict _ p
 
-pub statuses_refused_refuses : Allows 1 statuses_refused.ps statuses_refused.r statuses_refused_says.Post (λ κs a x s. Counted (status_checks a.0 a.1.0 a.1.1.0.now) x)
+pub statuses_refused_refuses : Allows 1 statuses_refused.ps statuses_refused.r statuses_refused_says.Post (λ κs a x s. Counted (status_checks a.0 a.1.0 a.1.1.0.now) (refusal_of x))
 statuses_refused_refuses κs a x s p = by_verdict _ p
 
-pub values_refused_refuses : Allows 1 values_refused.ps values_refused.r values_refused_says.Post (λ κs a x s. Counted (value_checks a.0 a.1.0 a.1.1.0.now a.1.1.1.0) x)
+pub values_refused_refuses : Allows 1 values_refused.ps values_refused.r values_refused_says.Post (λ κs a x s. Counted (value_checks a.0 a.1.0 a.1.1.0.now a.1.1.1.0) (refusal_of x))
 values_refused_refuses κs a x s p = by_verdict _ p

@@ -7,7 +7,7 @@ use mathlib.Core.Logic.{◌↔◌}
 use lib.Dec.{T}
 use lib.IntN.{ℤ}
 use lib.ListN.{length}
-use Rattle.ground.specs.Answer.{value, refused, outcome, of_result, of_result}
+use Rattle.ground.specs.Answer.{value, refused, outcome, of_result}
 use Rattle.ground.specs.Bytes.{AllBytes}
 use Rattle.ground.specs.Fixes.{Allows}
 use Rattle.ground.specs.Lists.{at}
@@ -22,7 +22,7 @@ use Rattle.book.specs.Book.{Book, book_of, held, Sized}
 use Rattle.book.specs.Asked.{held_asked}
 use Rattle.entering.specs.Run.{left_at}
 use Rattle.frames.specs.Frame.{InRange}
-use Rattle.frames.specs.Asked.{of_result, read_asked, write_asked}
+use Rattle.frames.specs.Asked.{read_asked, write_asked}
 use Rattle.frames.specs.declared.Frame.{Frame}
 use Rattle.frames.proofs.Round as round
 use Rattle.arrivals.specs.Run.{Arrival, entries_of, open_arrived}
@@ -30,7 +30,7 @@ use Rattle.exchange.specs.declared.Status.TheVariants.{Good, Symmetric, Manifest
 use Rattle.exchange.specs.Exchange.{statuses_of, exchange, dealt}
 use Rattle.bench.specs.Asked.{answer_for_asked, answers_asked}
 use Rattle.dealing.specs.Asked.{fill_asked}
-use Rattle.bound.specs.Bound.{of_result, bound_asked}
+use Rattle.bound.specs.Bound.{bound_asked}
 use Rattle.agreement.proofs.Demand2.{n, m, a, s, c}
 use Rattle.omh.specs.Numbers as numbers
 use Rattle.omh.specs.Numbers.{rack, frame_with, numbered, placed, placed_as, bit, fields_of}

@@ -6,7 +6,7 @@ use mathlib.Core.List.{List, Memᴰ}
 use lib.Dec.{T}
 use lib.IntN.{ℤ}
 use Rattle.ground.specs.Checks.{verdict}
-use Rattle.ground.specs.Answer.{value, Outcome, outcome, of_result, of_result}
+use Rattle.ground.specs.Answer.{value, Outcome, outcome, of_result}
 use Rattle.ground.specs.Fixes.{Allows}
 use Rattle.ground.specs.Lists.{at}
 use Rattle.words.specs.Word.{E}

@@ -14,7 +14,7 @@ use Rattle.book.specs.Book.{Book}
 use Rattle.book.specs.Asked.{book_checks, slot_checks, held_checks}
 use Rattle.frames.specs.Asked.{read_checks, write_checks}
 use Rattle.frames.specs.declared.Frame.{Frame}
-use Rattle.arrivals.specs.Entry.{entry_checks, arrival_checks}
+use Rattle.arrivals.specs.Entry.{frame_checks, entry_checks, arrival_checks}
 use Rattle.books.specs.Books.{books_checks, books_slot_checks}
 use Rattle.books.specs.Asked.{books_frame_checks}
 use Rattle.exchange.specs.Asked.{status_checks, value_checks}
@@ -46,6 +46,7 @@ pub record Orders (s : Settings) (turn : Turn) (rack : Rack) (b : Book) (words l
   -- entering a frame: 1 to 5, 9, 10, 11, 14, 12, 13, 15, 8, of which the frame alone has 9 to 15; reading 9, 10, 11, 14; writing 5, 14
   pub entering_frame : numbers (arrival_checks s b current bytes) ≡ 1 ∷ 2 ∷ 3 ∷ 4 ∷ 5 ∷ 9 ∷ 10 ∷ 11 ∷ 14 ∷ 12 ∷ 13 ∷ 15 ∷ 8 ∷ []
   pub books_entering_frame : numbers (books_frame_checks s list current bytes) ≡ 1 ∷ 2 ∷ 3 ∷ 4 ∷ 5 ∷ 9 ∷ 10 ∷ 11 ∷ 14 ∷ 12 ∷ 13 ∷ 15 ∷ 8 ∷ []
+  pub frame_alone : numbers (frame_checks s current bytes) ≡ 9 ∷ 10 ∷ 11 ∷ 14 ∷ 12 ∷ 13 ∷ 15 ∷ []
   pub frame_entry : numbers (entry_checks s current f) ≡ 12 ∷ 13 ∷ 15 ∷ 8 ∷ 8 ∷ []
   pub reading_frame : numbers (read_checks bytes) ≡ 9 ∷ 10 ∷ 11 ∷ 14 ∷ []
   pub writing_frame : numbers (write_checks f bytes) ≡ 5 ∷ 14 ∷ []
@@ -80,6 +81,7 @@ orders s turn rack b words list statuses bytes f x long k current q1 q2 q3 = rec
   books_entering = refl;
   entering_frame = refl;
   books_entering_frame = refl;
+  frame_alone = refl;
   frame_entry = refl;
   reading_frame = refl;
   writing_frame = refl;

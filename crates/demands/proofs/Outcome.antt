@@ -8,7 +8,7 @@ use lib.Dec.{T}
 use lib.IntN.{ℤ}
 use lib.ListN.{length}
 use Rattle.ground.specs.Checks.{verdict}
-use Rattle.ground.specs.Answer.{value, outcome, of_result}
+use Rattle.ground.specs.Answer.{value, outcome, refusal_of, of_result}
 use Rattle.ground.specs.Fixes.{Allows}
 use Rattle.ground.specs.Lists.{at}
 use Rattle.ground.proofs.Bools.{T_eq}
@@ -54,8 +54,8 @@ use Rattle.omh.proofs.omh_outcome_set.Reads as c_set_says
 pub starts-all-E : Allows 0 starts.ps starts.r starts_says.Post (λ κs a x e. x ≡ start)
 starts-all-E κs a x e p = p
 
--- the number in its place, and the outcome handed back
-pub set_row_leaves : Allows 3 set_row.ps set_row.r set_row_says.Post (λ κs a x e. outcome e.1.1.1.1.1.0.now x ≡ row_asked a.0 a.1.0 a.1.1.0.now a.1.1.1.0.now a.1.1.1.1.0)
+-- the number of the refusal beside it, and the outcome handed back
+pub set_row_leaves : Allows 2 set_row.ps set_row.r set_row_says.Post (λ κs a x e. outcome (refusal_of x.1) x.0 ≡ row_asked a.0 a.1.0 a.1.1.0.now a.1.1.1.0.now a.1.1.1.1.0)
 set_row_leaves κs a x e p = p
 
 pub start_list_leaves : Allows 1 start_list.ps start_list.r start_list_says.Post (λ κs a x e. outcome (of_result x) e.0.now ≡ start_asked a.0.now)
