@@ -30,11 +30,15 @@ unfolding occurs
 occurs_count v [] = refl
 occurs_count v (x ∷ xs) = grind (arith, common_steps, occurs_count v xs)
 
+pub occurs_none : (v : ℤ) → occurs v [] ≡ 0
+unfolding occurs
+occurs_none v = refl
+
 -- what is left of a list begins with its next word
 pub occurs_rest : (v : ℤ) (l : List ℤ) (i : ℕ) → i < length l → occurs v (drop i l) ≡ cond (same (get_or l i (pos 0)) v) 1 0 + occurs v (drop (i + 1) l)
 occurs_rest v l i h = grind (arith, common_steps, occurs_count, sum_by-drop_more (λ (x : ℤ). cond (same x v) 1 0) l i (pos 0) h)
 
-pub ruleset counting = (common_steps, told_same, told_other, kept_length, occurs_count, occurs_rest)
+pub ruleset counting = (common_steps, kept_length)
 
 -- ---- searching: what a turn tells
 
@@ -82,7 +86,7 @@ module _ (s : ℤ → Bool) (e : ℤ) (n : ℕ) where
       go false true p q = sought_here e n x (kept s xs) (grind (arith, nat_tests, occurs-kept s x xs))
       go false false p q = sought_after e n x (kept s xs) (grind (arith, nat_tests, occurs-kept s x xs))
 
-pub ruleset searching = (common_steps, take_rest, search_end, search_first)
+pub ruleset searching = (common_steps, take_rest, search_end, search_first, told_same, told_other, occurs_none, occurs_rest)
 
 -- ---- told rightly
 

@@ -2,9 +2,9 @@
 
 #![tactic(auto)]
 
-ghost use Rattle.std.specs.Prelude.{◌≡◌, cond, leb, length};
+ghost use Rattle.std.specs.Prelude.{◌≡◌, cond, length};
 ghost use Rattle.words.specs.Word.{kind_of, read_at, wrapped, unwrapped};
-ghost use Rattle.words.specs.Majority.{kept, occurs};
+ghost use Rattle.words.specs.Majority.{kept};
 ghost use Rattle.words.specs.Rule.{omh, majority_by};
 ghost use Rattle.words.specs.Counted.{majority_of};
 
@@ -122,34 +122,28 @@ fn majority_of(list: &[i32], n: usize) -> i32
 {
     let half = n / 2;
     let mut rest = list;
-    while half < rest.len() {
+    'outer: loop {
+        if rest.len() <= half {
+            break 'outer E;
+        }
         let word = rest[0];
         rest = &rest[1..];
-        if !is_struck(word) && recurs(word, half, rest) {
-            return word;
-        }
-    }
-    E
-}
-
-// Whether a word is in the list so many times or more; the search stops at that many.
-#[tactic(auto, using(crate::proofs::Search::counting))]
-fn recurs(word: i32, times: usize, list: &[i32]) -> bool
-    ensures { result ≡ leb times (occurs word list.now) }
-{
-    if times == 0 {
-        return true;
-    }
-    let mut seen = 0;
-    for &other in list {
-        if other == word {
-            seen += 1;
-            if seen == times {
-                return true;
+        if !is_struck(word) {
+            // Once is more than none.
+            if half == 0 {
+                break 'outer word;
+            }
+            let mut seen = 1;
+            for &other in rest {
+                if other == word {
+                    seen += 1;
+                    if half < seen {
+                        break 'outer word;
+                    }
+                }
             }
         }
     }
-    false
 }
 
 // The vote that reports decide, from which those that are struck are left out: their majority, unwrapped.

@@ -1,13 +1,18 @@
--- `words::majority_of`: the search finds in `rest` what it finds in the list.
+-- `words::majority_of`: the search finds in `rest` what it finds in the list; too few of a word are seen, and the others of them are still to come.
 use mathlib.Core.Path.{◌≡◌}
-use lib.ListN.{length}
+use Prim.Native.Nat.{◌≤◌, ◌+◌}
+use lib.ListN.{length, drop}
 use Rattle.words.specs.Word.{E}
+use Rattle.words.specs.Majority.{occurs}
 use Rattle.words.specs.Rule.{omh}
 use Rattle.words.specs.Counted.{majority_of}
 use Rattle.words.proofs.majority_of.Given as goal
 
-abbrev pub invariant-loop-rest : goal.invariant-loop-rest
-invariant-loop-rest l = majority_of omh.struck E l.n l.rest ≡ majority_of omh.struck E l.n l.list
+abbrev pub invariant-outer : goal.invariant-outer
+invariant-outer l = (length l.rest ≤ length l.list) × (majority_of omh.struck E l.n l.rest ≡ majority_of omh.struck E l.n l.list)
 
-abbrev pub decreases-loop-rest : goal.decreases-loop-rest
-decreases-loop-rest l = length l.rest
+abbrev pub decreases-outer : goal.decreases-outer
+decreases-outer l = length l.rest
+
+abbrev pub invariant-loop-other : goal.invariant-loop-other
+invariant-loop-other l = (l.seen ≤ l.half) × (l.seen + occurs l.word (drop l.other-index l.rest) ≡ 1 + occurs l.word l.rest)
