@@ -1,18 +1,17 @@
--- Each word is ordinary, one of the four missing ones, or bad; and what the ranges of a `match` tell of its kind.
+-- Each word is ordinary, one of the four missing ones, or bad.
 use Prim.Native.Nat.{ℕ, zero, suc, ◌-◌, ◌≤◌}
-use mathlib.Core.Path.{◌≡◌, refl, sym, subst, ap, ◌∙◌}
-use mathlib.Core.Bool.{Bool, true, false, true≢false}
+use mathlib.Core.Path.{◌≡◌, refl, sym, ap, ◌∙◌}
+use mathlib.Core.Bool.{Bool, true, false}
 use native.Mathlib.Omega.{arith}
-use borrow.Author.Tests.{ltb-true, ltb-false, leb-true, leb-false, le-leb, lt-leb}
+use borrow.Author.Tests.{leb-true, leb-false, le-leb}
 use lib.Dec.{leb}
-use lib.IntN.{ℤ, pos, negsuc, nat_abs}
-use lib.Signed.{lt_z}
+use lib.IntN.{ℤ, pos, negsuc}
 use mir.Syntax.{w32}
 use mir.Val.{SFits}
 use Rattle.words.specs.Word.{kind_of, missing}
 use Rattle.words.specs.declared.Kind.{Kind}
 use Rattle.words.specs.declared.Kind.TheVariants.{Ordinary, Missing, Bad}
-use Rattle.ground.proofs.Bits.{back, back_is, lt_told}
+use Rattle.ground.proofs.Bits.{back, back_is}
 
 -- what holds of each of the four numbers of wraps holds of all
 pub four : (P : ℕ → Type 0) → P 0 → P 1 → P 2 → P 3 → (w : ℕ) → w ≤ 3 → P w
@@ -47,55 +46,10 @@ view (negsuc n) = go (leb n 999999998) refl
     go true e = ordinary (simp e)
     go false e = bad (simp e)
 
-pub missing_is : (x : ℤ) (w : ℕ) → kind_of x ≡ Missing w → (x ≡ missing w) × (w ≤ 3)
-missing_is x w e = go (view x)
-  where
-    go : View x → (x ≡ missing w) × (w ≤ 3)
-    go (ordinary f) = let z : ◌≡◌ {A = ℕ} 0 1 = cc in absurd (omega arith)
-    go (wraps v h f) = let q : v ≡ w = cc (kind_missing v h, ap kind_of f) in (f ∙ ap missing q, omega arith)
-    go (bad f) = let z : ◌≡◌ {A = ℕ} 0 1 = cc in absurd (omega arith)
-
 -- an ordinary word is not missing
 pub ordinary_not : (x : ℤ) (w : ℕ) → w ≤ 3 → kind_of x ≡ Ordinary → x ≡ missing w → ⊥
 ordinary_not x w h e q = let z : ◌≡◌ {A = ℕ} 0 1 = cc (kind_missing w h, ap kind_of q) in omega arith
 
--- ---- what a `match` over the three ranges tells
-
-below : (x : ℤ) → lt_z x (negsuc 999999998) ≡ true → kind_of x ≡ Bad
-unfolding kind_of
-below (pos n) h = cc h
-below (negsuc n) h = simp (lt-leb n 999999998 (omega (arith, ltb-true)))
-
-pub among : (x : ℤ) → lt_z x (negsuc 999999998) ≡ false → lt_z x (pos 1000000000) ≡ true → kind_of x ≡ Ordinary
-unfolding kind_of
-among (pos n) g h = simp (le-leb n 999999999 (omega (arith, ltb-true)))
-among (negsuc n) g h = simp (le-leb n 999999998 (omega (arith, ltb-false)))
-
-few : (x : ℤ) → lt_z x (pos 1000000000) ≡ false → lt_z x (pos 1000000004) ≡ true → (x ≡ missing (nat_abs x - 1000000000)) × (nat_abs x - 1000000000 ≤ 3)
-few (pos n) g h = (ap pos (omega (arith, ltb-true, ltb-false)), omega (arith, ltb-true, ltb-false))
-few (negsuc n) g h = absurd (true≢false g)
-
-pub beyond : (x : ℤ) → lt_z x (pos 1000000004) ≡ false → kind_of x ≡ Bad
-unfolding kind_of
-beyond (pos n) g = simp (lt-leb n 999999999 (omega (arith, ltb-false)), le-leb 1000000000 n (omega (arith, ltb-false)), lt-leb n 1000000003 (omega (arith, ltb-false)))
-beyond (negsuc n) g = cc g
-
-module _ {x : ℤ} (f : SFits w32 x) where
-  pub told_below : lt_z (back x) (negsuc 999999998) ≡ true → kind_of x ≡ Bad
-  told_below h = below x (lt_told f _ h)
-
-  pub told-among : lt_z (back x) (negsuc 999999998) ≡ false → lt_z (back x) (pos 1000000000) ≡ true → kind_of x ≡ Ordinary
-  told-among g h = among x (lt_told f _ g) (lt_told f _ h)
-
-  -- what holds of the four missing words holds of x
-  pub told_four : (P : ℤ → Type 0) → P (missing 0) → P (missing 1) → P (missing 2) → P (missing 3) → lt_z (back x) (pos 1000000000) ≡ false → lt_z (back x) (pos 1000000004) ≡ true → P x
-  told_four P a b c d g h =
-      let e = few x (lt_told f _ g) (lt_told f _ h) in
-      subst P (sym e.0) (four (λ w. P (missing w)) a b c d _ e.1)
-
-  pub told_beyond : lt_z (back x) (pos 1000000004) ≡ false → kind_of x ≡ Bad
-  told_beyond g = beyond x (lt_told f _ g)
-
-  -- what a call of `kind_of` ensures, and the arm that its result led to
-  pub told_kind : {r k : Kind} → r ≡ kind_of (back x) → r ≡ k → kind_of x ≡ k
-  told_kind e q = ap kind_of (sym (back_is f)) ∙ sym e ∙ q
+-- what a call of `kind_of` ensures, and the arm that its result led to
+pub told_kind : {x : ℤ} → SFits w32 x → {r k : Kind} → r ≡ kind_of (back x) → r ≡ k → kind_of x ≡ k
+told_kind f e q = ap kind_of (sym (back_is f)) ∙ sym e ∙ q

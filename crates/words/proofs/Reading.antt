@@ -1,19 +1,15 @@
 -- Laws of reading at a level, wrapping and unwrapping, and of the vote that they make.
 use Prim.Native.Nat.{ℕ, suc, ◌+◌, ◌-◌, ◌≤◌, ◌<◌}
 use mathlib.Core.Path.{◌≡◌, refl, sym, subst, ap, ◌∙◌}
-use mathlib.Core.Bool.{Bool, true, false, true≢false}
+use mathlib.Core.Bool.{Bool, true, false}
 use mathlib.Core.Logic.{◌⊎◌, inl, inr}
 use native.Mathlib.Omega.{arith}
 use borrow.Author.Tests.{leb-true, leb-false, ltb-true, ltb-false, le-leb, lt-leb, lt-ltb}
 use lib.Dec.{leb, ltb}
-use lib.IntN.{ℤ, pos, negsuc, nat_abs}
-use lib.Signed.{lt_z}
-use mir.Syntax.{w32}
-use mir.Val.{SFits}
+use lib.IntN.{ℤ, nat_abs}
 use Rattle.words.specs.Word.{kind_of, missing, E, read_at, wrapped, unwrapped}
 use Rattle.words.specs.declared.Kind.TheVariants.{Ordinary, Bad}
-use Rattle.ground.proofs.Bits.{back, back_is, lt_told}
-use Rattle.words.proofs.ByKind.{kind_missing, View, ordinary, wraps, bad, view, ordinary_not, among, beyond, told_below}
+use Rattle.words.proofs.ByKind.{kind_missing, View, ordinary, wraps, bad, view, ordinary_not}
 
 -- ---- each operation on each kind
 
@@ -129,42 +125,3 @@ unwrap_reads d x (as_missing w h l e) = as_missing (w - 1) (omega arith) (omega 
 pub read_0 : (x : ℤ) → Reads 0 x → (kind_of x ≡ Ordinary) ⊎ (x ≡ E)
 read_0 x (as_ordinary e) = inl e
 read_0 x (as_missing w h l e) = let q : w ≡ 0 = omega arith in inr (e ∙ ap missing q)
-
--- ---- what a `match` over one range tells: it ends d above E, where d is the level, and 3 for a level over 3
-
--- so it is 3 for a level that is none of 0, 1 and 2
-pub over_two : (l : ℕ) → (l ≡ 0 → ⊥) → (l ≡ 1 → ⊥) → (l ≡ 2 → ⊥) → 3 ≡ l - (l - 3)
-over_two l a b c = omega arith
-
-within_reads : (l d : ℕ) → d ≡ l - (l - 3) → (x : ℤ) → lt_z x (negsuc 999999998) ≡ false → lt_z x (pos (1000000001 + d)) ≡ true → read_at l x ≡ x
-within_reads l d q (pos n) g h = go (ltb n 1000000000) refl
-  where
-    go : (b : Bool) → ltb n 1000000000 ≡ b → read_at l (pos n) ≡ pos n
-    go true e = read_ordinary l _ (among (pos n) g e)
-    go false e =
-        let u = ltb-true n (1000000001 + d) h in
-        let v = ltb-false n 1000000000 e in
-        itself l _ (as_missing (n - 1000000000) (omega arith) (omega arith) (ap pos (omega arith)))
-within_reads l d q (negsuc n) g h = read_ordinary l _ (among (negsuc n) g refl)
-
-high_reads : (l d : ℕ) → d ≡ l - (l - 3) → (x : ℤ) → lt_z x (pos (1000000001 + d)) ≡ false → read_at l x ≡ E
-high_reads l d q (pos n) h = go (ltb n 1000000004) refl
-  where
-    go : (b : Bool) → ltb n 1000000004 ≡ b → read_at l (pos n) ≡ E
-    go true e =
-        let u = ltb-false n (1000000001 + d) h in
-        let v = ltb-true n 1000000004 e in
-        let w : n ≡ 1000000000 + (n - 1000000000) = omega arith in
-        ap (λ (k : ℕ). read_at l (pos k)) w ∙ read_too_far l (n - 1000000000) (omega arith) (omega arith)
-    go false e = read_bad l _ (beyond (pos n) e)
-high_reads l d q (negsuc n) h = absurd (true≢false h)
-
-module _ {x : ℤ} (f : SFits w32 x) (l : ℕ) where
-  pub told_low : lt_z (back x) (negsuc 999999998) ≡ true → E ≡ read_at l x
-  told_low h = sym (read_bad l x (told_below f h))
-
-  pub told-within : (d : ℕ) → d ≡ l - (l - 3) → lt_z (back x) (negsuc 999999998) ≡ false → lt_z (back x) (pos (1000000001 + d)) ≡ true → back x ≡ read_at l x
-  told-within d q g h = back_is f ∙ sym (within_reads l d q x (lt_told f _ g) (lt_told f _ h))
-
-  pub told_high : (d : ℕ) → d ≡ l - (l - 3) → lt_z (back x) (pos (1000000001 + d)) ≡ false → E ≡ read_at l x
-  told_high d q h = sym (high_reads l d q x (lt_told f _ h))

@@ -1,12 +1,14 @@
 -- Laws of `same`, the test whether two words are the same.
-use Prim.Native.Nat.{ℕ}
+use Prim.Native.Nat.{ℕ, ◌^◌, ◌<◌}
 use mathlib.Core.Path.{◌≡◌, refl, ap, subst}
 use mathlib.Core.Bool.{Bool, true, false}
 use native.Mathlib.Omega.{arith}
 use lib.Dec.{eqb}
 use lib.IntN.{ℤ, pos, negsuc}
+use lib.Signed.{mag}
 use mir.Syntax.{w32}
 use mir.Val.{of_z, SFits}
+use borrow.Author.Rules.{sfits_of}
 use borrow.Author.Tests.{eq-eqb, ne_eqb, eqb-true}
 use Rattle.words.specs.Majority.{same}
 use Rattle.ground.proofs.Bits.{bits_eq}
@@ -50,3 +52,10 @@ bits_same {x} {y} f g = go (same x y) refl
     go : (b : Bool) → same x y ≡ b → eqb (of_z w32 x) (of_z w32 y) ≡ b
     go true e = eq-eqb _ _ (ap (of_z w32) (same_eq x y e))
     go false e = ne_eqb _ _ (λ q. same_ne x y e (bits_eq f g q))
+
+-- what the machine's test tells of a word that was read and another
+pub told_same : (x y : ℤ) → mag x < 2 ^ 31 → SFits w32 y → of_z w32 x ≡ of_z w32 y → same x y ≡ true
+told_same x y f g e = eq_same x y (bits_eq (sfits_of f) g e)
+
+pub told_other : (x y : ℤ) → (of_z w32 x ≡ of_z w32 y → ⊥) → same x y ≡ false
+told_other x y n = ne_same x y (λ e. n (ap (of_z w32) e))

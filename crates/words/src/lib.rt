@@ -12,13 +12,14 @@ ghost use Rattle.words.specs.Counted.{majority_of};
 pub const E: i32 = 1_000_000_000;
 
 // A missing word has its wraps.
-#[derive(Clone, Copy)]
+#[derive(Clone, Copy, Debug, PartialEq, Eq)]
 pub enum Kind {
     Ordinary,
     Missing(usize),
     Bad,
 }
 
+#[tactic(auto, unfolding(crate::specs::Word::kind_of))]
 pub fn kind_of(word: i32) -> Kind
     ensures { result ≡ kind_of word }
 {
@@ -30,6 +31,7 @@ pub fn kind_of(word: i32) -> Kind
 }
 
 // The word as it reads at a level: ordinary, or missing with no more wraps than the level; one range for each level, so that no branch is taken for a word's kind.
+#[tactic(auto, unfolding(crate::specs::Word::kind_of, crate::specs::Word::read_at))]
 pub fn read_at(level: usize, word: i32) -> i32
     ensures { result ≡ read_at level word }
 {
@@ -53,6 +55,7 @@ pub fn read_at(level: usize, word: i32) -> i32
     }
 }
 
+#[tactic(auto, unfolding(crate::specs::Word::kind_of, crate::specs::Word::wrapped))]
 pub fn wrap(word: i32) -> i32
     ensures { result ≡ wrapped word }
 {
@@ -63,6 +66,7 @@ pub fn wrap(word: i32) -> i32
     }
 }
 
+#[tactic(auto, unfolding(crate::specs::Word::kind_of, crate::specs::Word::unwrapped))]
 pub fn unwrap(word: i32) -> i32
     ensures { result ≡ unwrapped word }
 {
@@ -74,6 +78,7 @@ pub fn unwrap(word: i32) -> i32
 }
 
 // Whether the word is struck from a vote.
+#[tactic(auto, unfolding(crate::specs::Majority::same))]
 fn is_struck(word: i32) -> bool
     ensures { result ≡ omh.struck word }
 {
@@ -88,19 +93,22 @@ pub fn weight(word: i32) -> usize
 }
 
 // How many words of the list are not struck.
+#[tactic(auto, using(crate::proofs::Search::counting))]
 fn kept_len(list: &[i32]) -> usize
     ensures { result ≡ length (kept omh.struck list.now) }
 {
-    let mut n = list.len();
-    for i in 0..list.len() {
-        if is_struck(list[i]) {
-            n -= 1;
+    // A loop: a filtered count is compiled without vectors.
+    let mut left = list.len();
+    for &word in list {
+        if is_struck(word) {
+            left -= 1;
         }
     }
-    n
+    left
 }
 
 // The word that more than half of the words other than E are, else E.
+#[tactic(auto, using(crate::proofs::Search::told_rightly))]
 pub fn majority(list: &[i32]) -> i32
     ensures { result ≡ majority_by omh list.now }
 {
@@ -108,33 +116,33 @@ pub fn majority(list: &[i32]) -> i32
 }
 
 // The same, told how many words are not struck. A word is counted from its place on; where no more than half of that number are left to search, none of them is found.
+#[tactic(auto, using(crate::proofs::Search::searching))]
 fn majority_of(list: &[i32], n: usize) -> i32
     ensures { result ≡ majority_of omh.struck omh.none n list.now }
 {
     let half = n / 2;
-    let mut i = 0;
+    let mut rest = list;
     'outer: loop {
-        if list.len() - i <= half {
+        if rest.len() <= half {
             break 'outer E;
         }
-        let w = list[i];
-        if !is_struck(w) {
-            let mut seen: usize = 1;
-            let mut j = i + 1;
-            loop {
-                if half < seen {
-                    break 'outer w;
-                }
-                if j == list.len() {
-                    break;
-                }
-                if list[j] == w {
+        let word = rest[0];
+        rest = &rest[1..];
+        if !is_struck(word) {
+            // Once is more than none.
+            if half == 0 {
+                break 'outer word;
+            }
+            let mut seen = 1;
+            for &other in rest {
+                if other == word {
                     seen += 1;
+                    if half < seen {
+                        break 'outer word;
+                    }
                 }
-                j += 1;
             }
         }
-        i += 1;
     }
 }
 

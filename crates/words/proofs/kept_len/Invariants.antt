@@ -1,12 +1,10 @@
-use Prim.Native.Nat.{◌+◌, ◌-◌, ◌≤◌}
+-- `words::kept_len`: what is left and the struck words so far make up the list.
 use mathlib.Core.Path.{◌≡◌}
+use Prim.Native.Nat.{◌+◌}
 use lib.ListN.{length, take}
-use Rattle.words.specs.Majority.{kept}
+use Rattle.std.specs.List.{count_by}
 use Rattle.words.specs.Rule.{omh}
 use Rattle.words.proofs.kept_len.Given as goal
 
-abbrev pub invariant-loop-i : goal.invariant-loop-i
-invariant-loop-i l = (l.i ≤ length l.list) × (l.i-end ≡ length l.list) × (l.n + l.i ≡ length l.list + length (kept omh.struck (take l.i l.list)))
-
-abbrev pub decreases-loop-i : goal.decreases-loop-i
-decreases-loop-i l = length l.list - l.i
+abbrev pub invariant-loop-word : goal.invariant-loop-word
+invariant-loop-word l = l.left + count_by omh.struck (take l.word-index l.list) ≡ length l.list
