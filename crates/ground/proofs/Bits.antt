@@ -1,8 +1,6 @@
 -- A signed local holds bits; what the machine reads back from a word's bits is the word, so a test of the bits is one of the words.
 use mathlib.Core.Path.{◌≡◌, sym, ap, ◌∙◌}
-use mathlib.Core.Bool.{Bool}
 use lib.IntN.{ℤ}
-use lib.Signed.{lt_z}
 use mir.Syntax.{w32}
 use mir.Val.{of_z, to_z, SFits}
 use mir.ValLaws.{to_z-of_z}
@@ -17,6 +15,3 @@ module _ {x : ℤ} (f : SFits w32 x) where
 
   pub bits_eq : {y : ℤ} → SFits w32 y → of_z w32 x ≡ of_z w32 y → x ≡ y
   bits_eq {y} g e = sym back_is ∙ ap (to_z w32) e ∙ to_z-of_z w32 y g
-
-  pub lt_told : (y : ℤ) {b : Bool} → lt_z (back x) y ≡ b → lt_z x y ≡ b
-  lt_told y e = rw back_is at e

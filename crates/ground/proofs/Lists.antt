@@ -137,11 +137,6 @@ over_snoc p f (suc c) q = go (p q) _ (over_snoc p f c (suc q) ∙ ap (λ (x : �
 -- ---- some of a table
 
 module _ (f : ℕ → Bool) where
-  pub none-of : (c s : ℕ) → ((q : ℕ) → q < s + c → f q ≡ false) → some_of (table c s f) ≡ false
-  unfolding some_of table
-  none-of zero s h = refl
-  none-of (suc c) s h = rw (h s (omega arith)) (none-of c (suc s) (λ q a. h q (omega arith)))
-
   pub one_of : (c s q : ℕ) → s ≤ q → q < s + c → f q ≡ true → some_of (table c s f) ≡ true
   unfolding some_of table
   one_of zero s q a b e = absurd (omega arith)

@@ -31,15 +31,11 @@ no_verdict (c ∷ cs) p e = go c.applies refl e (no_verdict cs (and_right (ltb 0
 
 -- ---- one list of checks after another
 
--- a number that is not 0 stays, and 0 gives way
+-- a number that is not 0 stays
 pub stays : (k v : ℕ) → (k ≡ 0 → ⊥) → k ≡ next k v
 unfolding next
 stays zero v n = absurd (n refl)
 stays (suc k) v n = refl
-
-pub gives_way : {k : ℕ} → k ≡ 0 → (v : ℕ) → v ≡ next k v
-unfolding next
-gives_way z v = rw z
 
 pub verdict-append : (cs ds : List Check) → T (proper cs) → verdict (cs ++ ds) ≡ next (verdict cs) (verdict ds)
 unfolding verdict next
