@@ -39,11 +39,11 @@ unfolding dealt_over
 length-dealt R X p before = length-table slots 0 _
 
 -- dealt from slot 0 on, with all cards that may relay and all rounds, the words are dealt at every live slot
-pub dealt-all : (R : Rule) (s : Settings) (x : ℤ) (statuses : List ℕ) (words before : List ℤ) {members : List Bool} {left : ℕ} {after : List ℤ} → s.rack.m ≤ 3 → length before ≡ slots → members ≡ table 10 0 (may_relay s) → left ≡ rounds_left s 0 → DealtFrom R statuses words s.p members left 0 0 (get_or statuses s.t 0) x before after members → after ≡ dealt_over R (exchange (turn_of s) x statuses words) s.p before
+pub dealt-all : (R : Rule) (s : Settings) (x : ℤ) (statuses : List ℕ) (words before : List ℤ) {members : List Bool} {left : ℕ} {word : ℤ} {after : List ℤ} → s.rack.m ≤ 3 → length before ≡ slots → members ≡ table 10 0 (may_relay s) → left ≡ rounds_left s 0 → word ≡ x → DealtFrom R statuses words s.p members (record { left = left; d = 0; k = 0 }) (record { status = get_or statuses s.t 0; word = word }) before after members → after ≡ dealt_over R (exchange (turn_of s) x statuses words) s.p before
 unfolding dealt_over
-dealt-all R s x statuses words before few long e f h =
+dealt-all R s x statuses words before few long e f g h =
     let X = exchange (turn_of s) x statuses words in
-    h.words (turn_of s) x (sends_first R X)
+    h.words (turn_of s) x (rw g (sends_first R X))
     ∙ ap₂ (λ (l : List Bool) (r : ℕ). put_in (dealt_to R X s.p) l r 0 0 before) (e ∙ first-members s) f
     ∙ put_is s _ (λ k. dealt R X k s.p) before few long (λ o r d k members h. refl) (λ e. refl)
 

@@ -1,35 +1,41 @@
 -- Dealing as the code does it: what a card sends is handed down with its path, and a word is put in its place after those of the longer paths.
-use Rattle.std.specs.Prelude.{ℕ, ◌+◌, ◌≤◌, ◌<◌, ◌≡◌, Bool, List, ℤ, length}
+use Rattle.std.specs.Prelude.{ℕ, ◌+◌, ◌-◌, ◌≤◌, ◌<◌, ◌≡◌, Bool, List, ℤ, length}
 use Rattle.words.specs.Rule.{Rule}
 use Rattle.settings.specs.Settings.{slots}
 use Rattle.settings.specs.declared.Turn.{Turn}
-use Rattle.paths.specs.Slots.{level}
+use Rattle.paths.specs.Slots.{below, level}
 use Rattle.paths.specs.Walk.{put_in, put_below}
 use Rattle.exchange.specs.Exchange.{Exchange, exchange, status_of, dealt}
 use Rattle.exchange.specs.Asked.{table_words}
 use Rattle.exchange.specs.Sending.{Sends}
+use Rattle.dealing.specs.declared.Place.{Place}
+use Rattle.dealing.specs.declared.Sent.{Sent}
 
--- what dealing from slot k is asked: whole lists, all ten cards, a card, and a slot of level d with at most three relays in all
-pub record DealsFrom (statuses : List ℕ) (table : List ℤ) (p : ℕ) (words : List ℤ) (members : List Bool) (r d k : ℕ) : Type 0 where
+-- the longer path by card q
+abbrev pub by : Place → ℕ → Place
+by at q = record { left = at.left - 1; d = at.d + 1; k = below at.k q }
+
+-- what dealing from a place is asked: whole lists, all ten cards, a card, and a slot of its level with at most three relays in all
+pub record DealsFrom (statuses : List ℕ) (table : List ℤ) (p : ℕ) (words : List ℤ) (members : List Bool) (at : Place) : Type 0 where
   pub statuses_long : length statuses ≡ 10
   pub table_long : length table ≡ table_words
   pub words_long : length words ≡ slots
   pub cards : length members ≡ 10
   pub card : p < 10
-  pub slot : k < slots
-  pub here : level k ≡ d
-  pub deep : r + d ≤ 3
+  pub slot : at.k < slots
+  pub here : level at.k ≡ at.d
+  pub deep : at.left + at.d ≤ 3
 
 -- the word of p, by its slot alone
 abbrev pub dealt_to : Rule → Exchange → ℕ → List Bool → ℕ → ℕ → ℕ → ℤ
 dealt_to R X p members r d k = dealt R X k p
 
--- p's words at slot k and at the longer paths in their places, in any exchange of these statuses and this table in which a card of this status sends at k, the word if it is good
-pub record DealtFrom (R : Rule) (statuses : List ℕ) (table : List ℤ) (p : ℕ) (cards : List Bool) (r d k status : ℕ) (word : ℤ) (before after : List ℤ) (cards-after : List Bool) : Type 0 where
-  pub words : (turn : Turn) (x : ℤ) → Sends R (exchange turn x statuses table) k (status_of status) word → after ≡ put_in (dealt_to R (exchange turn x statuses table) p) cards r d k before
+-- p's words at a place and at the longer paths in their places, in any exchange of these inputs in which this is sent there
+pub record DealtFrom (R : Rule) (statuses : List ℕ) (table : List ℤ) (p : ℕ) (cards : List Bool) (at : Place) (sent : Sent) (before after : List ℤ) (cards-after : List Bool) : Type 0 where
+  pub words : (turn : Turn) (x : ℤ) → Sends R (exchange turn x statuses table) at.k (status_of sent.status) sent.word → after ≡ put_in (dealt_to R (exchange turn x statuses table) p) cards at.left at.d at.k before
   pub members : cards-after ≡ cards
 
--- the same at the longer paths by the first c cards alone, with r rounds left for each
-pub record DealtBelow (R : Rule) (statuses : List ℕ) (table : List ℤ) (p : ℕ) (cards : List Bool) (r d k status : ℕ) (word : ℤ) (before : List ℤ) (c : ℕ) (after : List ℤ) (cards-after : List Bool) : Type 0 where
-  pub words : (turn : Turn) (x : ℤ) → Sends R (exchange turn x statuses table) k (status_of status) word → after ≡ put_below (dealt_to R (exchange turn x statuses table) p) cards r d k c before
+-- the same at the longer paths by the first c cards alone
+pub record DealtBelow (R : Rule) (statuses : List ℕ) (table : List ℤ) (p : ℕ) (cards : List Bool) (at : Place) (sent : Sent) (before : List ℤ) (c : ℕ) (after : List ℤ) (cards-after : List Bool) : Type 0 where
+  pub words : (turn : Turn) (x : ℤ) → Sends R (exchange turn x statuses table) at.k (status_of sent.status) sent.word → after ≡ put_below (dealt_to R (exchange turn x statuses table) p) cards (at.left - 1) at.d at.k c before
   pub members : cards-after ≡ cards

@@ -2,7 +2,7 @@
 
 #![tactic(auto)]
 
-ghost use Rattle.std.specs.Prelude.{◌≡◌, ◌+◌, ◌≤◌, ◌<◌, length};
+ghost use Rattle.std.specs.Prelude.{◌≡◌, ◌≤◌, ◌<◌, length};
 ghost use Rattle.ground.specs.Answer.{outcome, of_result};
 ghost use Rattle.words.specs.Rule.{omh};
 ghost use Rattle.settings.specs.Settings.{slots, turn_of};
@@ -10,30 +10,70 @@ ghost use Rattle.settings.specs.declared.Rack.{Rack};
 ghost use Rattle.vote.specs.Vote.{rule_of};
 ghost use Rattle.book.specs.Book.{book_of};
 ghost use Rattle.exchange.specs.Exchange.{exchange, dealt};
-ghost use Rattle.exchange.specs.Sending.{Deals};
+ghost use Rattle.exchange.specs.Asked.{table_words};
+ghost use Rattle.exchange.specs.Sending.{sent_to, Deals};
 ghost use Rattle.dealing.specs.Dealt.{dealt_over};
-ghost use Rattle.dealing.specs.DealOrder.{DealsFrom, DealtFrom, DealtBelow};
+ghost use Rattle.dealing.specs.DealOrder.{DealsFrom, DealtFrom, DealtBelow, by};
 ghost use Rattle.dealing.specs.Asked.{word_asked, fill_asked};
 
 use ground::refusal;
 use ground::refusal::Refusal;
 use settings::Settings;
 
+// What a card of this status sends, `word` if it is good.
+#[derive(Clone, Copy)]
+struct Sent {
+    status: u8,
+    word: i32,
+}
+
+// The path at slot k of level d, with so many rounds left.
+#[derive(Clone, Copy)]
+struct Place {
+    left: usize,
+    d: usize,
+    k: usize,
+}
+
+impl Sent {
+    // What card p receives of it at slot k.
+    fn to(self, table: &[i32], k: usize, p: usize) -> i32
+        requires { (length table.now ≡ table_words) × (k < slots) × (p < 10) }
+        ensures { result ≡ sent_to self.status self.word table.now k p }
+    {
+        exchange::sent_by(self.status, self.word, table[10 * k + p], table[10 * k])
+    }
+}
+
+impl Place {
+    // The longer path by card q.
+    fn by(self, q: usize) -> Place
+        requires { (0 < self.left) × (self.d ≤ 3) × (self.k < slots) × (q < 10) }
+        ensures { result ≡ by self q }
+    {
+        Place {
+            left: self.left - 1,
+            d: self.d + 1,
+            k: 10 * self.k + 1 + q,
+        }
+    }
+}
+
 // The word that card p receives at slot k.
 fn dealt_at(t: usize, x: i32, statuses: &[u8], table: &[i32], k: usize, p: usize) -> i32
     requires { Deals t statuses.now table.now × (k < slots) × (p < 10) }
     ensures { (rack : Rack) → result ≡ dealt omh (exchange (record { rack = rack; t = t }) x statuses.now table.now) k p }
 {
-    let own = table[10 * k + p];
-    let first = table[10 * k];
     if k == 0 {
-        return exchange::sent_by(statuses[t], x, own, first);
+        let status = statuses[t];
+        return Sent { status, word: x }.to(table, k, p);
     }
     let q = paths::last_relay(k);
     let above = paths::above(k);
-    let word = dealt_at(t, x, statuses, table, above, q);
-    let sends = exchange::relayed(paths::level_of(above), word);
-    exchange::sent_by(statuses[q], sends, own, first)
+    let received = dealt_at(t, x, statuses, table, above, q);
+    let word = exchange::relayed(paths::level_of(above), received);
+    let status = statuses[q];
+    Sent { status, word }.to(table, k, p)
 }
 
 // The word that the own card receives on the path at a slot.
@@ -53,7 +93,7 @@ pub fn word_for(
     Ok(dealt_at(s.t, x, statuses, table, slot, s.p))
 }
 
-// Deals card p its word at slot k of level d, on which a card of this status sends, `word` if it is good, after its words at the longer paths. So many rounds are left; `members` are the cards that may still relay.
+// Deals card p its word of what is sent at a place, after its words at the longer paths; `members` are the cards that may still relay.
 #[cycle(deal_from_deal_members)]
 fn deal_from(
     statuses: &[u8],
@@ -61,33 +101,19 @@ fn deal_from(
     p: usize,
     words: &mut [i32],
     members: &mut [bool; Settings::MAX_CARDS],
-    left: usize,
-    d: usize,
-    k: usize,
-    status: u8,
-    word: i32,
+    at: Place,
+    sent: Sent,
 )
-    requires { DealsFrom statuses.now table.now p words.old members.old left d k }
-    ensures { DealtFrom omh statuses.now table.now p members.old left d k status word words.old words.new members.new }
+    requires { DealsFrom statuses.now table.now p words.old members.old at }
+    ensures { DealtFrom omh statuses.now table.now p members.old at sent words.old words.new members.new }
 {
-    if 0 < left {
-        deal_members(
-            statuses,
-            table,
-            p,
-            words,
-            members,
-            left - 1,
-            d,
-            k,
-            status,
-            word,
-        );
+    if 0 < at.left {
+        deal_members(statuses, table, p, words, members, at, sent);
     }
-    words[k] = exchange::sent_by(status, word, table[10 * k + p], table[10 * k]);
+    words[at.k] = sent.to(table, at.k, p);
 }
 
-// Deals card p its words at the longer paths, by each member in turn, with so many rounds left for each.
+// Deals card p its words at the longer paths, by each member in turn.
 #[cycle(deal_from_deal_members)]
 fn deal_members(
     statuses: &[u8],
@@ -95,33 +121,28 @@ fn deal_members(
     p: usize,
     words: &mut [i32],
     members: &mut [bool; Settings::MAX_CARDS],
-    left: usize,
-    d: usize,
-    k: usize,
-    status: u8,
-    word: i32,
+    at: Place,
+    sent: Sent,
 )
-    requires { DealsFrom statuses.now table.now p words.old members.old (left + 1) d k }
-    ensures { DealtBelow omh statuses.now table.now p members.old left d k status word words.old 10 words.new members.new }
+    requires asked { DealsFrom statuses.now table.now p words.old members.old at }
+    requires more { 0 < at.left }
+    ensures { DealtBelow omh statuses.now table.now p members.old at sent words.old 10 words.new members.new }
 {
-    let first = table[10 * k];
-    let told = exchange::relayed(d, exchange::sent_by(status, word, first, first));
+    let told = exchange::relayed(at.d, sent.to(table, at.k, 0));
     for q in 0..Settings::MAX_CARDS {
         if members[q] {
             members[q] = false;
-            let sender = statuses[q];
-            let received = exchange::sent_by(status, word, table[10 * k + q], first);
+            let status = statuses[q];
+            let received = sent.to(table, at.k, q);
+            let word = exchange::sent_on(sent.status, status, at.d, received, told);
             deal_from(
                 statuses,
                 table,
                 p,
                 words,
                 members,
-                left,
-                d + 1,
-                10 * k + 1 + q,
-                sender,
-                exchange::sent_on(status, sender, d, received, told),
+                at.by(q),
+                Sent { status, word },
             );
             members[q] = true;
         }
@@ -134,25 +155,19 @@ fn deal(s: Settings, x: i32, statuses: &[u8], table: &[i32], words: &mut [i32])
     ensures { words.new ≡ dealt_over (rule_of s.rack) (exchange (turn_of s) x statuses.now table.now) s.p words.old }
 {
     let mut members = paths::may_relay(s);
-    let left = paths::rounds_left(s, 0);
-    let t = s.t;
-    let p = s.p;
-    let status = statuses[t];
-    if 0 < left {
-        deal_members(
-            statuses,
-            table,
-            p,
-            words,
-            &mut members,
-            left - 1,
-            0,
-            0,
-            status,
-            x,
-        );
+    let at = Place {
+        left: paths::rounds_left(s, 0),
+        d: 0,
+        k: 0,
+    };
+    let sent = Sent {
+        status: statuses[s.t],
+        word: x,
+    };
+    if 0 < at.left {
+        deal_members(statuses, table, s.p, words, &mut members, at, sent);
     }
-    words[0] = exchange::sent_by(status, x, table[p], table[0]);
+    words[0] = sent.to(table, 0, s.p);
 }
 
 // Fills a book for the own card.

@@ -1,15 +1,10 @@
 -- `dealing::fill` meets its contract: the verdict decides; the words are dealt, and the book refilled.
-use mathlib.Core.Path.{◌≡◌, sym, ap, ap₂, ◌∙◌}
+use mathlib.Core.Path.{◌≡◌, sym, ap₂, ◌∙◌}
 use mathlib.Core.Bool.{◌&&◌}
-use lib.IntN.{ℤ}
 use Rattle.ground.specs.Checks.{verdict}
 use Rattle.ground.proofs.Bits.{back_is}
 use Rattle.ground.proofs.Answers.{leaves_outcome}
-use Rattle.settings.specs.Settings.{turn_of}
-use Rattle.vote.specs.Vote.{rule_of}
 use Rattle.book.specs.Book.{book_of}
-use Rattle.exchange.specs.Exchange.{exchange}
-use Rattle.dealing.specs.Dealt.{dealt_over}
 use Rattle.dealing.specs.Asked.{fill_checks, fill_asked}
 use Rattle.exchange.proofs.Asking.{deals, own-card, card-verdict}
 use Rattle.dealing.proofs.Filling.{fill-asked, filling}
@@ -33,8 +28,4 @@ deal-requires c =
     (deals _ a.statuses.now a.table.now given.0.turn given.1, given.0.turn.rack.deep, own-card a.s given.0, given.2.words_long)
 
 pub returns : goal.returns
-returns c =
-    let a = c.args in
-    c.refill.ensures
-    ∙ filling a.s a.x a.statuses.now a.table.now (book_of a.words.now a.votes.now) (passes (goal.at.returns c).In_ok-card_refused)
-    (c.deal.ensures ∙ ap (λ (x : ℤ). dealt_over (rule_of a.s.rack) (exchange (turn_of a.s) x a.statuses.now a.table.now) a.s.p a.words.now) (back_is c.ranges.x))
+returns c = c.refill.ensures ∙ filling _ _ _ _ _ (passes (goal.at.returns c).In_ok-card_refused) (rw (back_is c.ranges.x) at c.deal.ensures)

@@ -4,18 +4,14 @@ use mathlib.Core.Path.{◌≡◌, refl, sym, ap, ◌∙◌}
 use mathlib.Core.Bool.{not}
 use mathlib.Core.List.{[], ◌∷◌}
 use borrow.Author.Rules.{sfits_of}
-use lib.IntN.{ℤ}
 use Rattle.ground.specs.Checks.{check, verdict}
 use Rattle.ground.proofs.Bools.{holds}
 use Rattle.ground.proofs.Bits.{back_is}
 use Rattle.ground.proofs.Answers.{leaves_answer, answer-given, refused-first, then-decided}
 use Rattle.ground.proofs.Verdicts.{no_verdict, alone, no_verdicts}
-use Rattle.settings.specs.Settings.{turn_of}
 use Rattle.paths.specs.Slots.{live}
 use Rattle.paths.proofs.Live.{live-slot}
 use Rattle.paths.proofs.Members.{in_tells}
-use Rattle.vote.specs.Vote.{rule_of}
-use Rattle.exchange.specs.Exchange.{exchange, dealt}
 use Rattle.exchange.specs.Asked.{inputs_long, card_checks}
 use Rattle.dealing.specs.Asked.{word_checks, word_asked}
 use Rattle.exchange.proofs.Asking.{card-asked, deals, own-card, card-verdict}
@@ -48,8 +44,5 @@ dealt_at-requires c =
 pub returns : goal.returns
 unfolding word_asked
 returns c =
-    let a = c.args in
     answer-given (told (goal.at.returns c).After-when c.in_ok-when.ensures) refl
-    (back_is (sfits_of c.dealt_at.type_inv)
-    ∙ c.dealt_at.ensures a.s.rack
-    ∙ ap (λ (x : ℤ). dealt (rule_of a.s.rack) (exchange (turn_of a.s) x a.statuses.now a.table.now) a.slot a.s.p) (back_is c.ranges.x))
+    (back_is (sfits_of c.dealt_at.type_inv) ∙ rw (back_is c.ranges.x) at (c.dealt_at.ensures c.args.s.rack))
