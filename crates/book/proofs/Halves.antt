@@ -1,13 +1,14 @@
 -- Laws of a book in one list: its two halves.
-use Prim.Native.Nat.{ℕ, ◌+◌, ◌≤◌, min}
+use Prim.Native.Nat.{ℕ, zero, suc, ◌+◌, ◌≤◌, min}
 use mathlib.Core.Path.{◌≡◌, refl, sym, ap, ap₂, ◌∙◌}
 use mathlib.Core.Bool.{Bool, true, false, not}
-use mathlib.Core.List.{List, [], ◌++◌, append-nil}
+use mathlib.Core.List.{List, [], ◌∷◌, ◌++◌, append-nil}
 use native.Mathlib.Omega.{arith}
 use native.Mathlib.Decide.{ℕ_discrete}
+use native.Mathlib.Nat.{zero-add, suc-add}
 use lib.Dec.{eqb, leb, leb→le}
 use lib.IntN.{ℤ}
-use lib.ListN.{length, take, drop, take-append-drop, drop_of_length-le, length-drop, length-append}
+use lib.ListN.{length, replicate, take, drop, take-append-drop, drop_of_length-le, length-drop, length-append, length-replicate}
 use lib.Seq.{length-take-le, take_all, take_at, drop_at}
 use borrow.Author.Tests.{eq-eqb, ne_eqb, leb-false}
 use Rattle.std.proofs.lemmas.List.{take_min, drop_min, nil_from_length}
@@ -52,6 +53,16 @@ halves_long l = go (ℕ_discrete (length l) 2222) (sized (halves l)) refl
     go (yes e) b q = rw (eq-eqb (length l) 2222 e) (sym (both_sized (halves l) (halves-sized l e)))
     go (no n) true q = absurd (n (sized-halves l (sized_both (halves l) (ap not q))))
     go (no n) false q = rw (ne_eqb (length l) 2222 n, q)
+
+-- a word everywhere is that word everywhere in both halves
+pub halves-same : (n : ℕ) (w : ℤ) → n ≡ 2222 → halves (replicate n w) ≡ book_of (replicate slots w) (replicate slots w)
+halves-same n w e =
+    let both : n ≡ slots + slots = omega arith in
+    ap (λ (i : ℕ). halves (replicate i w)) both ∙ ap halves (replicate_add slots slots) ∙ halves_joined (replicate slots w) (replicate slots w) (length-replicate slots w)
+  where
+    replicate_add : (a b : ℕ) → replicate (a + b) w ≡ replicate a w ++ replicate b w
+    replicate_add zero b = ap (λ (i : ℕ). replicate i w) (zero-add b)
+    replicate_add (suc a) b = ap (λ (i : ℕ). replicate i w) (suc-add a b) ∙ ap (λ (l : List ℤ). w ∷ l) (replicate_add a b)
 
 -- ---- the list split in its halves and lent on: the first `mid` places, all of them where there are fewer than a half has
 

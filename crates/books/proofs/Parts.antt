@@ -2,14 +2,14 @@
 use Prim.Native.Nat.{ℕ, zero, suc, ◌+◌, ◌*◌, ◌≤◌, ◌<◌}
 use mathlib.Core.Path.{◌≡◌, refl, sym, ap, ap₂, ◌∙◌}
 use mathlib.Core.Logic.{◌≢◌}
-use mathlib.Core.Bool.{not}
+use mathlib.Core.Bool.{Bool, true, false, not, ◌&&◌, true≢false}
 use mathlib.Core.List.{List, ◌++◌}
 use native.Mathlib.Omega.{arith}
 use native.Mathlib.Decide.{ℕ_discrete}
-use lib.Dec.{eqb, eqb→eq}
+use lib.Dec.{eqb, ltb, eqb→eq}
 use lib.IntN.{ℤ}
 use lib.ListN.{length, take-append-drop, length-append}
-use borrow.Author.Tests.{eq-eqb}
+use borrow.Author.Tests.{eq-eqb, lt-ltb}
 use Rattle.ground.specs.Checks.{Check, verdict}
 use Rattle.ground.specs.Answer.{Answer, refused, Outcome, outcome, answer, after, outcome_by}
 use Rattle.ground.proofs.Answers.{outcome-refused}
@@ -42,6 +42,13 @@ asked_has s l e =
 
 pub good_has : (s : Settings) (l : List ℤ) → verdict (settings_checks s) ≡ 0 → length l ≡ 22220 → Has s.t l
 good_has s l good long = asked_has s l (rest_decides (settings_checks s) _ tt good ∙ none-verdict _ (ap not (eq-eqb (length l) 22220 long), tt))
+
+-- and so one that has none is refused
+pub has_not : (s : Settings) (l : List ℤ) → (ltb s.t 10 && eqb (length l) 22220) ≡ false → verdict (books_checks s l) ≡ 0 → ⊥
+has_not s l e z =
+    let h = asked_has s l z in
+    let w : ◌≡◌ {A = Bool} true false = sym (rw (lt-ltb s.t 10 h.sender, eq-eqb (length l) 22220 h.long) refl) ∙ e in
+    true≢false w
 
 module _ {t : ℕ} {l : List ℤ} (h : Has t l) where
   pub part_in : 2222 * t + 2222 ≤ length l
