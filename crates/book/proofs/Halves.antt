@@ -1,24 +1,22 @@
 -- Laws of a book in one list: its two halves.
 use Prim.Native.Nat.{ℕ, zero, suc, ◌+◌, ◌≤◌, min}
 use mathlib.Core.Path.{◌≡◌, refl, sym, ap, ap₂, ◌∙◌}
-use mathlib.Core.Bool.{Bool, true, false, not}
+use mathlib.Core.Bool.{Bool, true, false}
 use mathlib.Core.List.{List, [], ◌∷◌, ◌++◌, append-nil}
 use native.Mathlib.Omega.{arith}
-use native.Mathlib.Decide.{ℕ_discrete}
 use native.Mathlib.Nat.{zero-add, suc-add}
-use lib.Dec.{eqb, leb, leb→le}
+use lib.Dec.{leb, leb→le}
 use lib.IntN.{ℤ}
 use lib.ListN.{length, replicate, take, drop, take-append-drop, drop_of_length-le, length-drop, length-append, length-replicate}
 use lib.Seq.{length-take-le, take_all, take_at, drop_at}
-use borrow.Author.Tests.{eq-eqb, ne_eqb, leb-false}
+use borrow.Author.Tests.{leb-false}
 use Rattle.std.proofs.lemmas.List.{take_min, drop_min, nil_from_length}
 use Rattle.ground.specs.Answer.{Outcome, outcome, of_result}
 use Rattle.std.specs.Prelude.{Result}
 use Rattle.ground.specs.declared.refusal.Refusal.{Refusal}
 use Rattle.ground.proofs.Answers.{outcome_apart}
 use Rattle.settings.specs.Settings.{slots}
-use Rattle.book.specs.Book.{Book, book_of, halves, sized, Sized}
-use Rattle.book.proofs.Asking.{sized_both, both_sized}
+use Rattle.book.specs.Book.{Book, book_of, halves, Sized}
 
 -- words and then votes have just these halves
 pub halves_joined : (words votes : List ℤ) → length words ≡ slots → halves (words ++ votes) ≡ book_of words votes
@@ -45,15 +43,6 @@ pub sized-halves : (l : List ℤ) → Sized (halves l) → length l ≡ 2222
 sized-halves l z =
     ap length (sym (take-append-drop slots l)) ∙ length-append (take slots l) (drop slots l) ∙ omega (arith, z.words_long, z.votes_long)
 
--- as a test
-pub halves_long : (l : List ℤ) → not (eqb (length l) 2222) ≡ not (sized (halves l))
-halves_long l = go (ℕ_discrete (length l) 2222) (sized (halves l)) refl
-  where
-    go : Dec (length l ≡ 2222) → (b : Bool) → sized (halves l) ≡ b → not (eqb (length l) 2222) ≡ not (sized (halves l))
-    go (yes e) b q = rw (eq-eqb (length l) 2222 e) (sym (both_sized (halves l) (halves-sized l e)))
-    go (no n) true q = absurd (n (sized-halves l (sized_both (halves l) (ap not q))))
-    go (no n) false q = rw (ne_eqb (length l) 2222 n, q)
-
 -- a word everywhere is that word everywhere in both halves
 pub halves-same : (n : ℕ) (w : ℤ) → n ≡ 2222 → halves (replicate n w) ≡ book_of (replicate slots w) (replicate slots w)
 halves-same n w e =
@@ -65,6 +54,10 @@ halves-same n w e =
     replicate_add (suc a) b = ap (λ (i : ℕ). replicate i w) (suc-add a b) ∙ ap (λ (l : List ℤ). w ∷ l) (replicate_add a b)
 
 -- ---- the list split in its halves and lent on: the first `mid` places, all of them where there are fewer than a half has
+
+-- the two parts are the halves
+pub split_halves : (l : List ℤ) {words votes : List ℤ} {mid : ℕ} → mid ≡ min slots (length l) → words ≡ take mid l → votes ≡ drop mid l → book_of words votes ≡ halves l
+split_halves l e w v = ap₂ book_of (w ∙ ap (λ (m : ℕ). take m l) e ∙ take_min slots l) (v ∙ ap (λ (m : ℕ). drop m l) e ∙ drop_min slots l)
 
 -- what it is split into, and what comes back, has as many places in each part
 pub record Split (l words votes left right : List ℤ) (mid : ℕ) : Type 0 where
@@ -88,6 +81,4 @@ module _ {l words votes left right : List ℤ} {mid : ℕ} (p : Split l words vo
   -- what a call on the two yields and leaves, it yields and leaves of the list
   pub split_call : {Y : Type 0} {y : Y} (asked : Book → Outcome Y Book) → outcome y (book_of left right) ≡ asked (book_of words votes) → outcome y (halves (left ++ right)) ≡ asked (halves l)
   split_call {y = y} asked told =
-      ap (outcome y) joined
-      ∙ told
-      ∙ ap asked (ap₂ book_of (p.front ∙ ap (λ (m : ℕ). take m l) p.half ∙ take_min slots l) (p.back ∙ ap (λ (m : ℕ). drop m l) p.half ∙ drop_min slots l))
+      ap (outcome y) joined ∙ told ∙ ap asked (split_halves l p.half p.front p.back)

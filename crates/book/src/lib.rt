@@ -37,10 +37,8 @@ pub fn book_refused(s: Settings, words: &[i32], votes: &[i32]) -> Result<(), Ref
 pub fn part_refused(s: Settings, part: &[i32]) -> Result<(), Refusal>
     ensures { refusal_of result ≡ verdict (book_checks s (halves part.now)) }
 {
-    refusal::first(
-        settings::settings_refused(s),
-        refusal::when(part.len() != BOOK, Refusal::Long),
-    )
+    let (words, votes) = part.split_at(Settings::SLOTS.min(part.len()));
+    book_refused(s, words, votes)
 }
 
 pub fn open(s: Settings, words: &mut [i32], votes: &mut [i32]) -> Result<(), Refusal>

@@ -1,10 +1,11 @@
--- `book::part_refused` meets its contract: the settings' verdict, then the list's length.
-use Rattle.ground.proofs.Verdicts.{alone, joined}
-use Rattle.settings.specs.Settings.{settings_checks}
-use Rattle.book.proofs.Halves.{halves_long}
+-- `book::part_refused` meets its contract: it is the check of its two halves.
+use mathlib.Core.Path.{ap, ◌∙◌}
+use Rattle.ground.specs.Checks.{verdict}
+use Rattle.book.specs.Book.{Book}
+use Rattle.book.specs.Asked.{book_checks}
+use Rattle.book.proofs.Halves.{split_halves}
 use Rattle.book.proofs.part_refused.Goals as goal
 
 pub returns : goal.returns
 returns c =
-    let a = c.args in
-    joined (settings_checks a.s) _ tt c.first.ensures c.settings_refused.ensures (alone 5 c.when.ensures (halves_long a.part.now))
+    c.book_refused.ensures ∙ ap (λ (b : Book). verdict (book_checks c.args.s b)) (split_halves c.args.part.now c.min.ensures c.split_at.ensures.front c.split_at.ensures.back)
