@@ -20,9 +20,6 @@ returns-then-left-eq0 c =
     let a = c.args in
     own (goal.at.returns-then-left-eq0 c).After-read_at-own ∙ sym (made_last omh _ _ _ a.left a.d a.k c.if-left-eq0.true)
 
-pub over_held-requires : goal.over_held-requires
-over_held-requires c = let pre = c.requires in (pre.votes_whole, pre.cards, pre.inner c.if-left-eq0.false)
-
 pub returns : goal.returns
 returns c =
     let a = c.args in

@@ -1,6 +1,6 @@
 -- `entering::walk_up` meets its contract: the vote at `k` is re-made, what is handed on belongs to `k`, and what is left to re-make is the way above `k`.
 use Prim.Native.Nat.{◌<◌}
-use mathlib.Core.Path.{◌≡◌, sym, ◌∙◌}
+use mathlib.Core.Path.{◌≡◌, ◌∙◌}
 use mathlib.Core.Bool.{true}
 use native.Mathlib.Omega.{arith}
 use borrow.Author.Rules.{sfits_of}
@@ -8,7 +8,7 @@ use lib.ListN.{length, set}
 use Rattle.ground.proofs.Bits.{back_is}
 use Rattle.settings.specs.Settings.{slots}
 use Rattle.entering.specs.Remaking.{Remakes}
-use Rattle.entering.proofs.Steps.{Climbs, first_asks, climb_first, climb_asks, climb_level, climb_deep, climb_more, climb_done}
+use Rattle.entering.proofs.Steps.{Climbs, first_asks, climb_first, climb_asks, climb_level, climb_more, climb_done}
 use Rattle.entering.proofs.walk_up.Goals as goal
 use Rattle.entering.proofs.walk_up.Goals.{After-above-k, After-rounds_left-left, At-loop-k, In-loop-k}
 
@@ -31,9 +31,6 @@ offset_bounds-votes-slot c = omega (arith, (asks (goal.at.offset_bounds-votes-sl
 pub bounds-votes-slot : goal.bounds-votes-slot
 bounds-votes-slot c = let first = asks (goal.at.bounds-votes-slot c).After-rounds_left-left in omega (arith, first.votes_whole, first.slot)
 
-pub loop-k-init : goal.loop-k-init
-loop-k-init c = λ s vs b. b
-
 -- where the walk has come to
 here : (c : At-loop-k) → let a = c.args in Climbs a.s a.words.now a.votes.now a.slot c.loop-k.votes c.loop-k.members c.loop-k.d c.loop-k.k
 here c =
@@ -43,9 +40,6 @@ here c =
 
 going : (c : In-loop-k) → 0 < c.loop-k.k
 going c = omega arith
-
-pub bounds-members-last_relay : goal.bounds-members-last_relay
-bounds-members-last_relay c = omega (arith, c.last_relay.ensures, (here (goal.at.bounds-members-last_relay c).At-loop-k).cards)
 
 pub overflow_sub-d : goal.overflow_sub-d
 overflow_sub-d c = omega (arith, climb_level (here (goal.at.overflow_sub-d c).At-loop-k) (going (goal.at.overflow_sub-d c).In-loop-k))
@@ -58,29 +52,16 @@ up_asks c =
 pub bounds-words-k : goal.bounds-words-k
 bounds-words-k c = omega (arith, (up_asks (goal.at.bounds-words-k c).After-above-k).2, (here (goal.at.bounds-words-k c).At-loop-k).words_whole)
 
-pub overflow_add-d : goal.overflow_add-d
-overflow_add-d c = omega (arith, climb_deep (here (goal.at.overflow_add-d c).At-loop-k))
-
 pub over_held-vote-requires : goal.over_held-vote-requires
 over_held-vote-requires c = up_asks (goal.at.over_held-vote-requires c).After-above-k
 
-pub offset_bounds-votes-k : goal.offset_bounds-votes-k
-offset_bounds-votes-k c = omega (arith, (up_asks (goal.at.offset_bounds-votes-k c).After-above-k).2)
-
 pub bounds-votes-k : goal.bounds-votes-k
 bounds-votes-k c = let up = up_asks (goal.at.bounds-votes-k c).After-above-k in omega (arith, up.0, up.2)
-
-pub loop-k-smaller : goal.loop-k-smaller
-loop-k-smaller c = omega (arith, c.above-k.ensures)
 
 pub loop-k-preserved : goal.loop-k-preserved
 loop-k-preserved c =
     λ s vs b. climb_more (c.loop-k.invariant s vs b) (going (goal.at.loop-k-preserved c).In-loop-k) c.last_relay.ensures c.above-k.ensures
     (back_is (sfits_of c.over_held-vote.type_inv) ∙ c.over_held-vote.ensures) (back_is (sfits_of c.read_at-own.type_inv) ∙ c.read_at-own.ensures) (back_is (sfits_of c.read_at-arg-1.given))
-
-pub shape_of-votes : goal.shape_of-votes
-shape_of-votes c =
-    (here (goal.at.shape_of-votes c).At-loop-k).votes_whole ∙ sym c.requires.whole.votes_long
 
 pub returns : goal.returns
 returns c = climb_done (here (goal.at.returns c).At-loop-k) c.loop-k-test.false

@@ -18,9 +18,6 @@ pub returns-then-s-level_of : goal.returns-then-s-level_of
 returns-then-s-level_of c =
     in_deep _ _ _ c.if-slot-eq0.false c.if-s.false c.if-slot-ge-SLOTS.false (omega (arith, c.level_of.ensures, c.if-s-level_of.true))
 
-pub take_out-requires : goal.take_out-requires
-take_out-requires c = c.if-slot-ge-SLOTS.false
-
 pub returns : goal.returns
 returns c =
     c.take_out.ensures ∙ in_slot _ _ _ c.if-slot-eq0.false c.if-s.false c.if-slot-ge-SLOTS.false (omega (arith, c.level_of.ensures, c.if-s-level_of.false))

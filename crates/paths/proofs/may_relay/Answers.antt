@@ -2,18 +2,9 @@
 use mathlib.Core.Path.{ap, ◌∙◌}
 use mathlib.Core.Bool.{Bool, false}
 use mathlib.Core.List.{List}
-use lib.ListN.{length, set, length-set}
-use Rattle.ground.proofs.Lists.{length-table}
+use lib.ListN.{set}
 use Rattle.paths.proofs.Members.{may-table}
 use Rattle.paths.proofs.may_relay.Goals as goal
-
-pub bar-requires : goal.bar-requires
-bar-requires c = ap length c.fitted-found.ensures ∙ length-table 10 0 _
-
-pub bar-requires-2 : goal.bar-requires-2
-bar-requires-2 c =
-    let first = c.fitted-found in
-    ap length c.bar.ensures ∙ length-set first.result _ _ ∙ ap length first.ensures ∙ length-table 10 0 _
 
 pub returns : goal.returns
 returns c =

@@ -13,44 +13,17 @@ returns-then-level-eq0 c = sym (at_0 _ _ _ _ c.if-level-eq0.true)
 pub returns-then-q1-ge-MAX_CARDS : goal.returns-then-q1-ge-MAX_CARDS
 returns-then-q1-ge-MAX_CARDS c = sym (over_1 _ _ _ _ c.if-level-gt-MAX_ROUNDS.false c.if-level-eq0.false c.if-q1-ge-MAX_CARDS.true)
 
-pub overflow_add-result : goal.overflow_add-result
-overflow_add-result c = omega arith
-
 pub returns-then-level-eq1 : goal.returns-then-level-eq1
 returns-then-level-eq1 c = sym (at_1 _ _ _ _ c.if-level-eq1.true c.if-q1-ge-MAX_CARDS.false)
 
 pub returns-then-q2-ge-MAX_CARDS : goal.returns-then-q2-ge-MAX_CARDS
 returns-then-q2-ge-MAX_CARDS c = sym (over_2 _ _ _ _ (omega arith) (omega arith) c.if-q2-ge-MAX_CARDS.true)
 
-pub overflow_mul-result : goal.overflow_mul-result
-overflow_mul-result c = omega arith
-
-pub overflow_add-result-then-level-eq2 : goal.overflow_add-result-then-level-eq2
-overflow_add-result-then-level-eq2 c = omega arith
-
-pub overflow_add-result-then-level-eq2-2 : goal.overflow_add-result-then-level-eq2-2
-overflow_add-result-then-level-eq2-2 c = omega arith
-
 pub returns-then-level-eq2 : goal.returns-then-level-eq2
 returns-then-level-eq2 c = sym (at_2 _ _ _ _ c.if-level-eq2.true (omega arith) c.if-q2-ge-MAX_CARDS.false)
 
 pub returns-then-q3-ge-MAX_CARDS : goal.returns-then-q3-ge-MAX_CARDS
 returns-then-q3-ge-MAX_CARDS c = sym (over_3 _ _ _ _ (omega arith) c.if-q3-ge-MAX_CARDS.true)
-
-pub overflow_mul-result-2 : goal.overflow_mul-result-2
-overflow_mul-result-2 c = omega arith
-
-pub overflow_add-result-2 : goal.overflow_add-result-2
-overflow_add-result-2 c = omega arith
-
-pub overflow_mul-result-3 : goal.overflow_mul-result-3
-overflow_mul-result-3 c = omega arith
-
-pub overflow_add-result-3 : goal.overflow_add-result-3
-overflow_add-result-3 c = omega arith
-
-pub overflow_add-result-4 : goal.overflow_add-result-4
-overflow_add-result-4 c = omega arith
 
 pub returns : goal.returns
 returns c = sym (at_3 _ _ _ _ (omega arith) (omega arith) (omega arith) c.if-q3-ge-MAX_CARDS.false)

@@ -4,7 +4,7 @@ use mathlib.Core.Path.{ap, ◌∙◌}
 use native.Mathlib.Omega.{arith}
 use lib.ListN.{length, length-append}
 use Rattle.text.proofs.Digits.{more_digits}
-use Rattle.text.proofs.Store.{Begun, begun_none, begun_some, inside, kept, ended}
+use Rattle.text.proofs.Store.{Begun, begun_none, begun_some, inside, ended}
 use Rattle.text.proofs.+put.Goals as goal
 use Rattle.text.proofs.+put.Goals.{Joined-n-lt10, then-n-lt10, else-n-lt10}
 
@@ -23,9 +23,6 @@ bounds-out-last t c = inside (begun t c) c.requires
 
 pub overflow_add-result : goal.overflow_add-result
 overflow_add-result t c = omega (arith, (ended (begun t (goal.at.overflow_add-result t c).Joined-n-lt10)).0)
-
-pub shape_of-out : goal.shape_of-out
-shape_of-out t c = kept (begun t (goal.at.shape_of-out t c).Joined-n-lt10) _
 
 pub returns : goal.returns
 returns t c = ended (begun t (goal.at.returns t c).Joined-n-lt10)
