@@ -41,8 +41,8 @@ fn over_held(
     ensures { result ≡ decided omh own (held_votes omh votes.now members.now d k 10) }
 {
     let mut reports = Reports::begin(own);
-    for q in 0..Settings::MAX_CARDS {
-        if members[q] {
+    for (q, &may) in members.iter().enumerate() {
+        if may {
             let vote = words::read_at(d, votes[10 * k + 1 + q]);
             reports.add(vote);
         }

@@ -5,7 +5,7 @@ use Rattle.ground.proofs.Bits.{back_is}
 use Rattle.words.specs.Rule.{omh}
 use Rattle.vote.proofs.Gather.{gather_none, gather_more, gather_same, gather_decides}
 use Rattle.entering.proofs.over_held.Goals as goal
-use Rattle.entering.proofs.over_held.Goals.{then-members-q, else-members-q}
+use Rattle.entering.proofs.over_held.Goals.{then-may, else-may}
 
 pub loop-q-init : goal.loop-q-init
 loop-q-init c = gather_none omh _ _ _ c.begin-reports.ensures
@@ -13,9 +13,9 @@ loop-q-init c = gather_none omh _ _ _ c.begin-reports.ensures
 pub loop-q-preserved : goal.loop-q-preserved
 loop-q-preserved c =
     let so_far = c.loop-q.invariant in
-    elim c.if-members-q.branch [
-      | then-members-q w ↦ gather_more so_far c.loop-q-test.true w.if-members-q.true (back_is (sfits_of w.read_at-vote.type_inv) ∙ w.read_at-vote.ensures ∙ ap (omh.read _) (search rules)) (w.reports-is ∙ w.add.ensures)
-      | else-members-q w ↦ gather_same so_far w.if-members-q.false w.reports-is
+    elim c.if-may.branch [
+      | then-may w ↦ gather_more so_far c.loop-q-test.true w.if-may.true (back_is (sfits_of w.read_at-vote.type_inv) ∙ w.read_at-vote.ensures ∙ ap (omh.read _) (search rules)) (w.reports-is ∙ w.add.ensures)
+      | else-may w ↦ gather_same so_far w.if-may.false w.reports-is
     ]
 
 pub returns : goal.returns

@@ -1,4 +1,3 @@
-use Prim.Native.Nat.{◌-◌}
 use Rattle.ground.specs.Lists.{at}
 use Rattle.words.specs.Rule.{omh}
 use Rattle.paths.specs.Slots.{below}
@@ -9,6 +8,3 @@ use Rattle.entering.proofs.over_held.Given as goal
 abbrev pub invariant-loop-q : goal.invariant-loop-q
 invariant-loop-q l =
     Gathered omh (may l.members) (λ q. omh.read l.d (at l.votes (below l.k q))) l.own l.q l.reports
-
-abbrev pub decreases-loop-q : goal.decreases-loop-q
-decreases-loop-q l = 10 - l.q
