@@ -129,7 +129,7 @@ def times(case, instructions):
 def head():
     machine = platform.machine()
     kit = os.path.dirname(os.path.dirname(os.path.realpath(shutil.which("rt"))))
-    clang = first_line(f"{kit}/on/{machine}/toolchain/bin/clang", "--version")
+    clang = first_line(f"{kit}/toolchain/bin/clang", "--version")
     print(f"""\
 # Speed
 

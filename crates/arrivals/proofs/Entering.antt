@@ -14,7 +14,7 @@ use Rattle.ground.specs.declared.refusal.Refusal.{Refusal}
 use Rattle.ground.specs.Lists.{all}
 use Rattle.ground.proofs.Bools.{and_left, and_right}
 use Rattle.ground.proofs.Verdicts.{proper, no_verdict, no_verdicts, verdict-append, joined, rest_decides, first_decides, still_refused}
-use Rattle.ground.proofs.Answers.{outcome-refused, value-verdict, refused-verdict, numbered}
+use Rattle.ground.proofs.Answers.{outcome-refused, value-verdict, refused-verdict, numbered, refused_outcome}
 use Rattle.settings.specs.declared.Settings.{Settings}
 use Rattle.paths.specs.Slots.{live}
 use Rattle.paths.specs.Asked.{used, path_checks, slot_asked}
@@ -80,11 +80,6 @@ module _ (s : Settings) (current : ℕ) (bytes : List ℕ) (reads : verdict (rea
   pub entry_arrives : entry_asked s current (frame_of bytes) ≡ arrival_asked s current bytes
   unfolding entry_asked arrival_asked
   entry_arrives = ap (λ (v : ℕ). answer v (frame_entry (frame_of bytes))) by_entry
-
--- a refusal leaves what it was lent as it was
-pub refused_outcome : {L : Type 0} (x : Result (Unit {0}) Refusal) {v : ℕ} → refusal_of x ≡ v → (v ≡ 0 → ⊥) → (before made : L) → outcome (of_result x) before ≡ outcome_by v before made
-refused_outcome (Ok u) e n before made = absurd (n (sym e))
-refused_outcome (Err r) e n before made = outcome-refused e (numbered r) before made
 
 -- ---- other checks come before the frame's, and the slot's last: whatever memory is lent, and whatever an entry makes of it
 

@@ -5,16 +5,17 @@ use mathlib.Core.Logic.{◌≢◌}
 use mathlib.Core.Bool.{Bool, true, false, not, ◌&&◌, true≢false}
 use mathlib.Core.List.{List, ◌++◌}
 use native.Mathlib.Omega.{arith}
-use native.Mathlib.Decide.{ℕ_discrete}
-use lib.Dec.{eqb, ltb, eqb→eq}
+use lib.Dec.{T, eqb, ltb, eqb→eq, ltb→lt}
 use lib.IntN.{ℤ}
 use lib.ListN.{length, take-append-drop, length-append}
 use borrow.Author.Tests.{eq-eqb, lt-ltb}
 use Rattle.ground.specs.Checks.{Check, verdict}
-use Rattle.ground.specs.Answer.{Answer, refused, Outcome, outcome, answer, after, outcome_by}
-use Rattle.ground.proofs.Answers.{outcome-refused}
+use Rattle.ground.specs.Answer.{Answer, Outcome, outcome, answer, after, outcome_by, refusal_of, of_result}
+use Rattle.std.specs.Prelude.{Result}
+use Rattle.ground.specs.declared.refusal.Refusal.{Refusal}
+use Rattle.ground.proofs.Answers.{refused_outcome}
 use Rattle.ground.specs.Lists.{part, with_part}
-use Rattle.ground.proofs.Bools.{holds}
+use Rattle.ground.proofs.Bools.{holds, and_left, and_right}
 use Rattle.ground.proofs.Parts.{part-kept, part-long, part_same, part-other, length_with}
 use Rattle.ground.proofs.Verdicts.{none-verdict, no_verdict, no_verdicts, rest_decides, first_decides, same_first, still_refused}
 use Rattle.settings.specs.Settings.{settings_checks}
@@ -24,7 +25,7 @@ use Rattle.book.specs.Book.{Book, halves, Sized}
 use Rattle.book.specs.Asked.{book_checks}
 use Rattle.book.proofs.Asking.{both_sized}
 use Rattle.book.proofs.Halves.{halves-sized, halves_joined}
-use Rattle.books.specs.Books.{book_from, with_book, books_checks}
+use Rattle.books.specs.Books.{book_from, with_book, has_part, books_checks}
 
 -- ---- where there is a part
 
@@ -32,6 +33,11 @@ use Rattle.books.specs.Books.{book_from, with_book, books_checks}
 pub record Has (t : ℕ) (l : List ℤ) : Type 0 where
   pub sender : t < 10
   pub long : length l ≡ 22220
+
+pub has_it : {t : ℕ} {l : List ℤ} → (ltb t 10 && eqb (length l) 22220) ≡ true → Has t l
+has_it {t} {l} e =
+    let h : T (ltb t 10 && eqb (length l) 22220) = rw e tt in
+    record { sender = ltb→lt t 10 (and_left (ltb t 10) _ h); long = eqb→eq _ _ (and_right (ltb t 10) _ h) }
 
 -- a call that is not refused has its part
 pub asked_has : (s : Settings) (l : List ℤ) → verdict (books_checks s l) ≡ 0 → Has s.t l
@@ -106,16 +112,19 @@ module _ {t : ℕ} {l : List ℤ} (h : Has t l) where
       go (suc k) o = ap₂ outcome (ap (λ (o : Outcome (Answer (Unit {0})) Book). o.yields) o) (joined_again ∙ ap (λ (o : Outcome (Answer (Unit {0})) Book). with_book t l o.leaves) o ∙ with_same)
 
 -- a call by `on_part`, for which the part's call is a book's with these checks after its own
-pub by_part : (s : Settings) (l : List ℤ) (cs : List Check) (made : Book) {y : Answer (Unit {0})} {left : List ℤ} {Returns : List ℤ → Type 0} →
-    (verdict (books_checks s l) ≢ 0 → outcome y left ≡ outcome (refused (verdict (books_checks s l))) l) →
-    (verdict (books_checks s l) ≡ 0 → (new : List ℤ) × Returns new × (left ≡ with_part 2222 s.t l new)) →
-    ((new : List ℤ) → Returns new → outcome y (halves new) ≡ outcome_by (verdict (book_checks s (book_from s.t l) ++ cs)) (book_from s.t l) made) →
-    outcome y left ≡ outcome_by (verdict (books_checks s l ++ cs)) l (with_book s.t l made)
-by_part s l cs made {y} {left} none called told = go (ℕ_discrete (verdict (books_checks s l)) 0)
+pub by_part : (s : Settings) (l : List ℤ) (cs : List Check) (made : Book) (x : Result (Unit {0}) Refusal) {left : List ℤ} {Returns : List ℤ → Type 0} →
+    (has_part s l ≡ true → (new : List ℤ) × Returns new × (left ≡ with_part 2222 s.t l new)) →
+    (has_part s l ≡ false → (refusal_of x ≡ verdict (books_checks s l)) × (left ≡ l)) →
+    ((new : List ℤ) → Returns new → outcome (of_result x) (halves new) ≡ outcome_by (verdict (book_checks s (book_from s.t l) ++ cs)) (book_from s.t l) made) →
+    outcome (of_result x) left ≡ outcome_by (verdict (books_checks s l ++ cs)) l (with_book s.t l made)
+by_part s l cs made x {left} called none told = go (has_part s l) refl
   where
-    go : Dec (verdict (books_checks s l) ≡ 0) → outcome y left ≡ outcome_by (verdict (books_checks s l ++ cs)) l (with_book s.t l made)
-    go (yes z) =
-        let part = called z in
-        let has = asked_has s l z in
-        ap (outcome y) part.2 ∙ part_call has made part.0 (verdict (book_checks s (book_from s.t l) ++ cs)) (told part.0 part.1) (same_then has s cs)
-    go (no n) = none n ∙ outcome-refused (still_refused (books_checks s l) cs tt refl n) n l _
+    go : (b : Bool) → has_part s l ≡ b → outcome (of_result x) left ≡ outcome_by (verdict (books_checks s l ++ cs)) l (with_book s.t l made)
+    go true e =
+        let part = called e in
+        let has = has_it e in
+        ap (outcome (of_result x)) part.2 ∙ part_call has made part.0 (verdict (book_checks s (book_from s.t l) ++ cs)) (told part.0 part.1) (same_then has s cs)
+    go false e =
+        let is = none e in
+        let stays = still_refused (books_checks s l) cs tt refl (has_not s l e) in
+        ap (outcome (of_result x)) is.1 ∙ refused_outcome x (is.0 ∙ stays) (λ z. has_not s l e (stays ∙ z)) l _

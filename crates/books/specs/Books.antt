@@ -1,9 +1,9 @@
 -- Document 02, Q-1: a card's books, one for each sender, in one list.
-use Rattle.std.specs.Prelude.{ℕ, not, List, [], ◌∷◌, ◌++◌, eqb, ℤ, length}
+use Rattle.std.specs.Prelude.{ℕ, Bool, not, ◌&&◌, List, [], ◌∷◌, ◌++◌, eqb, ltb, ℤ, length}
 use Rattle.ground.specs.Refusal as refusal
 use Rattle.ground.specs.Checks.{Check, check}
 use Rattle.ground.specs.Lists.{part, with_part}
-use Rattle.settings.specs.Settings.{settings_checks}
+use Rattle.settings.specs.Settings.{most_cards, settings_checks}
 use Rattle.settings.specs.declared.Settings.{Settings}
 use Rattle.paths.specs.Slots.{live}
 use Rattle.book.specs.Book.{Book, halves}
@@ -22,6 +22,10 @@ book_from t l = halves (part book_words t l)
 -- the long list with another book for the sender t
 abbrev pub with_book : ℕ → List ℤ → Book → List ℤ
 with_book t l b = with_part book_words t l (b.words ++ b.votes)
+
+-- the sender is one of the ten cards, and the long list has its length: it has a part for the sender
+abbrev pub has_part : Settings → List ℤ → Bool
+has_part s l = ltb s.t most_cards && eqb (length l) books_words
 
 -- settings, then the long list's length
 abbrev pub books_checks : Settings → List ℤ → List Check

@@ -2,12 +2,12 @@
 
 #![tactic(auto)]
 
-ghost use Rattle.std.specs.Prelude.{◌≡◌, ◌≢◌, List, ℤ};
+ghost use Rattle.std.specs.Prelude.{◌≡◌, true, false, List, ℤ};
 ghost use Rattle.std.specs.Fn.{FnOnceReturnsAtMut};
 ghost use Rattle.ground.specs.Checks.{verdict};
-ghost use Rattle.ground.specs.Answer.{refused, outcome, refusal_of, of_result};
+ghost use Rattle.ground.specs.Answer.{outcome, refusal_of, of_result};
 ghost use Rattle.ground.specs.Lists.{part, with_part};
-ghost use Rattle.books.specs.Books.{book_words, books_checks};
+ghost use Rattle.books.specs.Books.{book_words, has_part, books_checks};
 ghost use Rattle.books.specs.Asked.{books_open_asked, books_enter_asked, books_refill_asked, books_frame_asked};
 
 use book::BOOK;
@@ -29,19 +29,21 @@ pub fn books_refused(s: Settings, books: &[i32]) -> Result<(), Refusal>
     )
 }
 
-// The call on the sender's part of the long list, unless that is refused.
+// The call on the sender's part of the long list, which sees to the settings; where there is no such part, the long list's refusal.
 fn on_part<F: FnOnce(&mut [i32]) -> Result<(), Refusal>>(
     s: Settings,
     books: &mut [i32],
     call: F,
 ) -> Result<(), Refusal>
     requires { F.IsAlwaysCallable call }
-    ensures refused { verdict (books_checks s books.old) ≢ 0 → outcome (of_result result) books.new ≡ outcome (refused (verdict (books_checks s books.old))) books.old }
-    ensures called { verdict (books_checks s books.old) ≡ 0 → (new : List ℤ) × FnOnceReturnsAtMut F.FnOnce call (part book_words s.t books.old) result new × (books.new ≡ with_part book_words s.t books.old new) }
+    ensures called { has_part s books.old ≡ true → (new : List ℤ) × FnOnceReturnsAtMut F.FnOnce call (part book_words s.t books.old) result new × (books.new ≡ with_part book_words s.t books.old new) }
+    ensures refused { has_part s books.old ≡ false → (refusal_of result ≡ verdict (books_checks s books.old)) × (books.new ≡ books.old) }
 {
-    books_refused(s, books)?;
-    let from = BOOK * s.t;
-    call(&mut books[from..from + BOOK])
+    if (s.t < Settings::MAX_CARDS) & (books.len() == BOOKS) {
+        let from = BOOK * s.t;
+        return call(&mut books[from..from + BOOK]);
+    }
+    books_refused(s, books)
 }
 
 pub fn open(s: Settings, books: &mut [i32]) -> Result<(), Refusal>

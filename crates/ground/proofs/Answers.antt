@@ -142,3 +142,10 @@ module _ (cs ds : List Check) (p : T (proper cs)) where
   -- none by the first: the second decides
   pub then-decided : 0 ≡ verdict cs → {v : ℕ} → v ≡ verdict ds → v ≡ verdict (cs ++ ds)
   then-decided z e = e ∙ sym (rest_decides cs ds p (sym z))
+
+-- ---- a call that yields what another refused
+
+-- a refusal leaves what it was lent as it was
+pub refused_outcome : {L : Type 0} (x : Result (Unit {0}) Refusal) {v : ℕ} → refusal_of x ≡ v → (v ≡ 0 → ⊥) → (before made : L) → outcome (of_result x) before ≡ outcome_by v before made
+refused_outcome (Ok u) e n before made = absurd (n (sym e))
+refused_outcome (Err r) e n before made = outcome-refused e (numbered r) before made

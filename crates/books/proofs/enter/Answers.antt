@@ -19,6 +19,6 @@ pub returns : goal.returns
 unfolding books_enter_asked
 returns c =
     let a = c.args in
-    by_part a.s a.books.now (check 8 (not (live a.s a.slot)) ∷ []) (entered (rule_of a.s.rack) a.s (book_from a.s.t a.books.now) a.slot a.word) c.on_part.ensures.refused c.on_part.ensures.called (λ new e.
+    by_part a.s a.books.now (check 8 (not (live a.s a.slot)) ∷ []) (entered (rule_of a.s.rack) a.s (book_from a.s.t a.books.now) a.slot a.word) c.on_part.result c.on_part.ensures.called c.on_part.ensures.refused (λ new e.
     let told : outcome (of_result c.on_part.result) (halves e.left.now) ≡ enter_asked a.s (halves e.shown.now) a.slot a.word = search rules in
     rw (← e.leaves, ← e.shows) told)

@@ -14,6 +14,6 @@ pub returns : goal.returns
 unfolding books_open_asked
 returns c =
     let a = c.args in
-    by_part a.s a.books.now [] (opened (rule_of a.s.rack)) c.on_part.ensures.refused c.on_part.ensures.called (λ new e.
+    by_part a.s a.books.now [] (opened (rule_of a.s.rack)) c.on_part.result c.on_part.ensures.called c.on_part.ensures.refused (λ new e.
     let told : outcome (of_result c.on_part.result) (halves e.left.now) ≡ open_asked a.s (halves e.shown.now) = search rules in
     rw (← e.leaves, ← e.shows) told)

@@ -16,6 +16,6 @@ pub returns : goal.returns
 unfolding books_refill_asked
 returns c =
     let a = c.args in
-    by_part a.s a.books.now [] (refilled (rule_of a.s.rack) a.s (book_from a.s.t a.books.now)) c.on_part.ensures.refused c.on_part.ensures.called (λ new e.
+    by_part a.s a.books.now [] (refilled (rule_of a.s.rack) a.s (book_from a.s.t a.books.now)) c.on_part.result c.on_part.ensures.called c.on_part.ensures.refused (λ new e.
     let told : outcome (of_result c.on_part.result) (halves e.left.now) ≡ refill_asked a.s (halves e.shown.now) = search rules in
     rw (← e.leaves, ← e.shows) told)
