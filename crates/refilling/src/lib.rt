@@ -2,7 +2,7 @@
 
 #![tactic(auto)]
 
-ghost use Rattle.std.specs.Prelude.{◌≡◌, ◌+◌, ◌<◌, length};
+ghost use Rattle.std.specs.Prelude.{◌≡◌, ◌<◌, length};
 ghost use Rattle.ground.specs.Answer.{outcome, of_result};
 ghost use Rattle.words.specs.Rule.{omh};
 ghost use Rattle.vote.specs.Vote.{rule_of};
@@ -11,6 +11,7 @@ ghost use Rattle.refilling.specs.Refilled.{refilled, refill_asked};
 ghost use Rattle.refilling.specs.RefillOrder.{Fills, Refills, Refilling, RefillingBelow};
 
 use ground::refusal::Refusal;
+use paths::Place;
 use settings::Settings;
 use vote::reports::Reports;
 
@@ -37,33 +38,35 @@ fn refill_all(s: Settings, words: &[i32], votes: &mut [i32])
     ensures { book_of words.now votes.new ≡ refilled (rule_of s.rack) s (book_of words.now votes.old) }
 {
     let mut members = paths::may_relay(s);
-    let left = paths::rounds_left(s, 0);
-    refill_from(words, votes, &mut members, left, 0, 0);
+    let at = Place {
+        left: paths::rounds_left(s, 0),
+        d: 0,
+        k: 0,
+    };
+    refill_from(words, votes, &mut members, at);
 }
 
-// The vote at slot k of level d from the words, with so many rounds left; it is put in its place, after those of the longer paths. `members` are the cards that may still relay.
+// The vote at a place from the words; it is put in its place, after those of the longer paths. `members` are the cards that may still relay.
 #[cycle(refill_from_refill_members)]
 fn refill_from(
     words: &[i32],
     votes: &mut [i32],
     members: &mut [bool; Settings::MAX_CARDS],
-    left: usize,
-    d: usize,
-    k: usize,
+    at: Place,
 ) -> i32
-    requires { Fills (book_of words.now votes.old) members.old left d k }
-    ensures refilling { Refilling omh (book_of words.now votes.old) members.old left d k result (book_of words.now votes.new) }
+    requires { Fills (book_of words.now votes.old) at }
+    ensures refilling { Refilling omh (book_of words.now votes.old) members.old at result (book_of words.now votes.new) }
     ensures members_unchanged { members.new ≡ members.old }
 {
-    let own = words::read_at(d, words[k]);
-    let vote = if left == 0 {
+    let own = words::read_at(at.d, words[at.k]);
+    let vote = if at.left == 0 {
         own
-    } else if left == 1 {
-        refill_last(words, votes, members, own, d, k)
+    } else if at.left == 1 {
+        refill_last(words, votes, members, own, at)
     } else {
-        refill_members(words, votes, members, own, left - 1, d, k)
+        refill_members(words, votes, members, own, at)
     };
-    votes[k] = vote;
+    votes[at.k] = vote;
     vote
 }
 
@@ -74,19 +77,23 @@ fn refill_members(
     votes: &mut [i32],
     members: &mut [bool; Settings::MAX_CARDS],
     own: i32,
-    left: usize,
-    d: usize,
-    k: usize,
+    at: Place,
 ) -> i32
-    requires { Fills (book_of words.now votes.old) members.old (left + 1) d k }
-    ensures refilling_below { RefillingBelow omh (book_of words.now votes.old) members.old left d k own result (book_of words.now votes.new) }
+    requires asked { Fills (book_of words.now votes.old) at }
+    requires more { 0 < at.left }
+    ensures refilling_below { RefillingBelow omh (book_of words.now votes.old) members.old at own result (book_of words.now votes.new) }
     ensures members_unchanged { members.new ≡ members.old }
 {
     let mut reports = Reports::begin(own);
     for q in 0..Settings::MAX_CARDS {
         if members[q] {
             members[q] = false;
-            let vote = refill_from(words, votes, members, left, d + 1, 10 * k + 1 + q);
+            let next = Place {
+                left: at.left - 1,
+                d: at.d + 1,
+                k: 10 * at.k + 1 + q,
+            };
+            let vote = refill_from(words, votes, members, next);
             members[q] = true;
             reports.add(vote);
         }
@@ -100,17 +107,17 @@ fn refill_last(
     votes: &mut [i32],
     members: &[bool; Settings::MAX_CARDS],
     own: i32,
-    d: usize,
-    k: usize,
+    at: Place,
 ) -> i32
-    requires { Fills (book_of words.now votes.old) members.now 1 d k }
-    ensures { RefillingBelow omh (book_of words.now votes.old) members.now 0 d k own result (book_of words.now votes.new) }
+    requires asked { Fills (book_of words.now votes.old) at }
+    requires last { at.left ≡ 1 }
+    ensures { RefillingBelow omh (book_of words.now votes.old) members.now at own result (book_of words.now votes.new) }
 {
     let mut reports = Reports::begin(own);
     for q in 0..Settings::MAX_CARDS {
         if members[q] {
-            let slot = 10 * k + 1 + q;
-            let vote = words::read_at(d + 1, words[slot]);
+            let slot = 10 * at.k + 1 + q;
+            let vote = words::read_at(at.d + 1, words[slot]);
             votes[slot] = vote;
             reports.add(vote);
         }

@@ -4,6 +4,7 @@ use Rattle.words.specs.Rule.{Rule}
 use Rattle.ground.specs.Lists.{at, over}
 use Rattle.settings.specs.Settings.{slots}
 use Rattle.settings.specs.declared.Settings.{Settings}
+use Rattle.paths.specs.declared.Place.{Place}
 use Rattle.paths.specs.Slots.{below, live, members_of}
 use Rattle.paths.specs.Walk.{may, room}
 use Rattle.vote.specs.Vote.{decided}
@@ -18,12 +19,11 @@ member_vote R words members (suc r) d k =
 abbrev pub members_votes : Rule → List ℤ → List Bool → ℕ → ℕ → ℕ → ℕ → List ℤ
 members_votes R words members r d k c = over (may members) (λ q. member_vote R words (set members q false) r (d + 1) (below k q)) c 0
 
--- what an instance is asked: the words of a whole book, all ten cards, at most three relays in all, and a slot with room for those left
-pub record Asked (words : List ℤ) (members : List Bool) (r d k : ℕ) : Type 0 where
+-- what an instance is asked: the words of a whole book, at most three relays in all, and a slot with room for those left
+pub record Asked (words : List ℤ) (at : Place) : Type 0 where
   pub whole : length words ≡ slots
-  pub cards : length members ≡ 10
-  pub deep : r + d ≤ 3
-  pub slot : k < room r
+  pub deep : at.left + at.d ≤ 3
+  pub slot : at.k < room at.left
 
 -- what the vote at a slot is asked: at most three rounds, a live path with its members, and the words of a whole book
 pub record Whole (s : Settings) (words : List ℤ) (members : List Bool) (k : ℕ) : Type 0 where

@@ -2,7 +2,7 @@
 
 #![tactic(auto)]
 
-ghost use Rattle.std.specs.Prelude.{◌≡◌, ◌+◌};
+ghost use Rattle.std.specs.Prelude.{◌≡◌, ◌-◌, ◌<◌};
 ghost use Rattle.ground.specs.Checks.{verdict};
 ghost use Rattle.ground.specs.Answer.{refusal_of, of_result};
 ghost use Rattle.words.specs.Rule.{omh};
@@ -12,29 +12,25 @@ ghost use Rattle.vote.specs.Asked.{words_checks, vote_asked, answer_asked};
 
 use ground::refusal;
 use ground::refusal::Refusal;
+use paths::Place;
 use reports::Reports;
 use settings::Settings;
 
 pub mod reports;
 
-// The vote at slot k of level d with so many rounds left; `members` are the cards that may still relay. Inline, so that a vote without longer paths costs the loop no call.
+// The vote at a place; `members` are the cards that may still relay. Inline, so that a vote without longer paths costs the loop no call.
 #[inline(always)]
 #[cycle(instance_over_members)]
-fn instance(
-    words: &[i32],
-    members: &mut [bool; Settings::MAX_CARDS],
-    left: usize,
-    d: usize,
-    k: usize,
-) -> i32
-    requires { Asked words.now members.old left d k }
-    ensures { (result ≡ member_vote omh words.now members.old left d k) × (members.new ≡ members.old) }
+fn instance(words: &[i32], members: &mut [bool; Settings::MAX_CARDS], at: Place) -> i32
+    requires { Asked words.now at }
+    ensures voted { result ≡ member_vote omh words.now members.old at.left at.d at.k }
+    ensures members_unchanged { members.new ≡ members.old }
 {
-    let own = words::read_at(d, words[k]);
-    if left == 0 {
+    let own = words::read_at(at.d, words[at.k]);
+    if at.left == 0 {
         return own;
     }
-    over_members(words, members, own, left - 1, d, k)
+    over_members(words, members, own, at)
 }
 
 // Decides the vote from the own reading and the votes of the longer paths, by each member in turn.
@@ -43,18 +39,23 @@ fn over_members(
     words: &[i32],
     members: &mut [bool; Settings::MAX_CARDS],
     own: i32,
-    left: usize,
-    d: usize,
-    k: usize,
+    at: Place,
 ) -> i32
-    requires { Asked words.now members.old (left + 1) d k }
-    ensures { (result ≡ decided omh own (members_votes omh words.now members.old left d k 10)) × (members.new ≡ members.old) }
+    requires asked { Asked words.now at }
+    requires more { 0 < at.left }
+    ensures voted { result ≡ decided omh own (members_votes omh words.now members.old (at.left - 1) at.d at.k 10) }
+    ensures members_unchanged { members.new ≡ members.old }
 {
     let mut reports = Reports::begin(own);
     for q in 0..Settings::MAX_CARDS {
         if members[q] {
             members[q] = false;
-            let vote = instance(words, members, left, d + 1, 10 * k + 1 + q);
+            let next = Place {
+                left: at.left - 1,
+                d: at.d + 1,
+                k: 10 * at.k + 1 + q,
+            };
+            let vote = instance(words, members, next);
             members[q] = true;
             reports.add(vote);
         }
@@ -73,7 +74,12 @@ fn vote_of(
     ensures { result ≡ vote (rule_of s.rack) s words.now slot }
 {
     let d = paths::level_of(slot);
-    instance(words, members, paths::rounds_left(s, d), d, slot)
+    let at = Place {
+        left: paths::rounds_left(s, d),
+        d,
+        k: slot,
+    };
+    instance(words, members, at)
 }
 
 // Whether a call over words is refused.

@@ -1,12 +1,9 @@
 -- `refilling::refill_all` meets its contract: from slot 0, with all its members and rounds, every live vote is put in.
 use Prim.Native.Nat.{ℕ}
-use mathlib.Core.Path.{◌≡◌, ap, ap₂, ◌∙◌}
+use mathlib.Core.Path.{ap, ap₂, ◌∙◌}
 use mathlib.Core.Bool.{Bool}
 use mathlib.Core.List.{List}
 use native.Mathlib.Omega.{arith}
-use lib.ListN.{length}
-use Rattle.ground.proofs.Lists.{length-table}
-use Rattle.paths.specs.Slots.{members_of}
 use Rattle.paths.specs.Walk.{put_in}
 use Rattle.paths.proofs.Members.{first-members}
 use Rattle.paths.proofs.Handed.{left_few, room_zero}
@@ -15,20 +12,14 @@ use Rattle.vote.specs.Vote.{rule_of}
 use Rattle.book.specs.Book.{book_of}
 use Rattle.refilling.proofs.Refilled.{put_votes}
 use Rattle.refilling.proofs.refill_all.Goals as goal
-use Rattle.refilling.proofs.refill_all.Goals.{After-may_relay-members}
-
--- the members of the path at slot 0
-top : (c : After-may_relay-members) → c.may_relay-members.result ≡ members_of c.args.s 0
-top c = c.may_relay-members.ensures ∙ first-members c.args.s
 
 pub refill_from-requires : goal.refill_from-requires
 refill_from-requires c =
     record {
       asked = record {
         whole = c.requires.whole.words_long;
-        cards = ap length (top (goal.at.refill_from-requires c).After-may_relay-members) ∙ length-table 10 0 _;
-        deep = omega (arith, c.rounds_left-left.ensures, left_few c.args.s 0, c.requires.few);
-        slot = room_zero c.rounds_left-left.result;
+        deep = omega (arith, c.rounds_left.ensures, left_few c.args.s 0, c.requires.few);
+        slot = room_zero c.rounds_left.result;
       };
       votes_whole = c.requires.whole.votes_long;
     }
@@ -40,5 +31,5 @@ returns c =
     let b = book_of a.words.now a.votes.now in
     c.refill_from.ensures.refilling.book
     ∙ ap (book_of b.words)
-    (ap₂ (λ (l : List Bool) (r : ℕ). put_in (member_vote R b.words) l r 0 0 b.votes) (top (goal.at.returns c).After-may_relay-members) c.rounds_left-left.ensures
+    (ap₂ (λ (l : List Bool) (r : ℕ). put_in (member_vote R b.words) l r 0 0 b.votes) (c.may_relay-members.ensures ∙ first-members a.s) c.rounds_left.ensures
     ∙ put_votes R a.s b.words b.votes c.requires.few c.requires.whole.votes_long)
