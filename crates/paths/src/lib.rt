@@ -13,6 +13,14 @@ ghost use Rattle.paths.specs.Walk.{take_out};
 use ground::refusal::Refusal;
 use settings::Settings;
 
+// The path that has been come to: its slot k, its level d, and the rounds left.
+#[derive(Clone, Copy, Debug, PartialEq, Eq)]
+pub struct Place {
+    pub left: usize,
+    pub d: usize,
+    pub k: usize,
+}
+
 // The slot of a path by its level and relays; the relays that the level does not use are not looked at.
 pub fn slot_of(level: usize, q1: usize, q2: usize, q3: usize) -> Result<usize, Refusal>
     ensures { of_result result ≡ slot_asked level q1 q2 q3 }
