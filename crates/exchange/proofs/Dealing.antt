@@ -54,7 +54,7 @@ module _ (R : Rule) (X : Exchange) where
   sends_first q = refl
 
   -- and on a longer one its last relay
-  pub sends_below : (d k q : ℕ) (status : Status) (word : ℤ) {relayed : ℤ} → k < 111 → level k ≡ d → q < 10 → relayed ≡ R.wrap (R.read d (sent status word (X.tabled k q) (X.tabled k 0))) → Sends R X k status word → Sends R X (below k q) (X.status q) relayed
+  sends_below : (d k q : ℕ) (status : Status) (word : ℤ) {relayed : ℤ} → k < 111 → level k ≡ d → q < 10 → relayed ≡ R.wrap (R.read d (sent status word (X.tabled k q) (X.tabled k 0))) → Sends R X k status word → Sends R X (below k q) (X.status q) relayed
   sends_below d k q status word h l g e s p = rw (e, ← l, s q) (sym (dealt-below R X k q h g p))
 
 -- all but an arbitrary card send one word to all
@@ -66,7 +66,7 @@ sent-all (suc (suc zero)) word own other first n = refl
 sent-all (suc (suc (suc k))) word own other first n = refl
 
 -- only a good card's word is looked at
-pub only_good : (status : ℕ) (word other own first : ℤ) → (status ≡ 0 → word ≡ other) → sent (status_of status) word own first ≡ sent (status_of status) other own first
+only_good : (status : ℕ) (word other own first : ℤ) → (status ≡ 0 → word ≡ other) → sent (status_of status) word own first ≡ sent (status_of status) other own first
 unfolding status_of sent
 only_good zero word other own first e = e refl
 only_good (suc zero) word other own first e = refl
@@ -74,7 +74,7 @@ only_good (suc (suc zero)) word other own first e = refl
 only_good (suc (suc (suc k))) word other own first e = refl
 
 -- what a good relay sends on of what it received, told what it would be of another card's word
-pub on_good : (R : Rule) (d status by : ℕ) (word own other first told : ℤ) → told ≡ R.wrap (R.read d (sent (status_of status) word other first)) → by ≡ 0 → cond (eqb status 1 && eqb by 0) (R.wrap (R.read d (sent (status_of status) word own first))) told ≡ R.wrap (R.read d (sent (status_of status) word own first))
+on_good : (R : Rule) (d status by : ℕ) (word own other first told : ℤ) → told ≡ R.wrap (R.read d (sent (status_of status) word other first)) → by ≡ 0 → cond (eqb status 1 && eqb by 0) (R.wrap (R.read d (sent (status_of status) word own first))) told ≡ R.wrap (R.read d (sent (status_of status) word own first))
 on_good R d status by word own other first told e z = rw z (go (ℕ_discrete status 1))
   where
     go : Dec (status ≡ 1) → cond (eqb status 1 && true) (R.wrap (R.read d (sent (status_of status) word own first))) told ≡ R.wrap (R.read d (sent (status_of status) word own first))
