@@ -2,31 +2,32 @@
 
 #![tactic(auto)]
 
-ghost use Rattle.std.specs.Prelude.{◌≡◌, ◌+◌, ◌≤◌, ◌<◌, length};
+ghost use Rattle.std.specs.Prelude.{◌≡◌, ◌≤◌, ◌<◌, length};
 ghost use Rattle.ground.specs.Answer.{outcome, of_result};
 ghost use Rattle.words.specs.Rule.{omh};
 ghost use Rattle.settings.specs.Settings.{slots, turn_of};
-ghost use Rattle.vote.specs.Vote.{rule_of, decided};
+ghost use Rattle.vote.specs.Vote.{rule_of};
 ghost use Rattle.exchange.specs.Exchange.{exchange, answer_of};
 ghost use Rattle.exchange.specs.Asked.{table_words};
-ghost use Rattle.exchange.specs.Sending.{sent_to, Deals};
-ghost use Rattle.bench.specs.Dealing.{Dealing, dealt_vote, dealt_votes};
+ghost use Rattle.exchange.specs.Sending.{sent_to, Deals, DealsFrom};
+ghost use Rattle.bench.specs.Dealing.{VotedFrom};
 ghost use Rattle.bench.specs.Asked.{answers_of, answer_for_asked, answers_asked};
 
+use exchange::Sent;
 use ground::refusal::Refusal;
+use paths::Place;
 use settings::{Settings, Turn};
 use vote::reports::Reports;
 
-// What card p receives at slot k from a card of this status, which sends `word` if it is good.
-fn sent_to(status: u8, word: i32, table: &[i32], k: usize, p: usize) -> i32
+// What card p receives at slot k of what is sent there.
+fn sent_to(sent: Sent, table: &[i32], k: usize, p: usize) -> i32
     requires { (length table.now ≡ table_words) × (k < slots) × (p < 10) }
-    ensures { result ≡ sent_to status word table.now k p }
+    ensures { result ≡ sent_to sent.status sent.word table.now k p }
 {
-    let first = 10 * k;
-    exchange::sent_by(status, word, table[first + p], table[first])
+    sent.received(table[10 * k + p], table[10 * k])
 }
 
-// The vote of card p at slot k of level d, on which a card of this status sends, `word` if it is good. So many rounds are left; `members` are the cards that may still relay. Inline, so that a vote without longer paths costs the loop no call.
+// The vote of card p at a place over what is sent there; `members` are the cards that may still relay. Inline, so that a vote without longer paths costs the loop no call.
 #[inline(always)]
 #[cycle(over_dealt_vote_dealt)]
 fn vote_dealt(
@@ -34,31 +35,17 @@ fn vote_dealt(
     table: &[i32],
     p: usize,
     members: &mut [bool; Settings::MAX_CARDS],
-    left: usize,
-    d: usize,
-    k: usize,
-    status: u8,
-    word: i32,
+    at: Place,
+    sent: Sent,
 ) -> i32
-    requires { Dealing statuses.now table.now p members.old left d k }
-    ensures { (result ≡ dealt_vote omh statuses.now table.now p members.old left d k status word) × (members.new ≡ members.old) }
+    requires { DealsFrom statuses.now table.now p members.old at }
+    ensures { VotedFrom omh statuses.now table.now p members.old at sent result members.new }
 {
-    let own = words::read_at(d, sent_to(status, word, table, k, p));
-    if left == 0 {
+    let own = words::read_at(at.d, sent_to(sent, table, at.k, p));
+    if at.left == 0 {
         return own;
     }
-    over_dealt(
-        statuses,
-        table,
-        p,
-        members,
-        own,
-        left - 1,
-        d,
-        k,
-        status,
-        word,
-    )
+    over_dealt(statuses, table, p, members, own, at, sent)
 }
 
 // Decides the vote from the own reading and the votes of the longer paths, by each member in turn.
@@ -69,36 +56,29 @@ fn over_dealt(
     p: usize,
     members: &mut [bool; Settings::MAX_CARDS],
     own: i32,
-    left: usize,
-    d: usize,
-    k: usize,
-    status: u8,
-    word: i32,
+    at: Place,
+    sent: Sent,
 ) -> i32
-    requires dealing { Dealing statuses.now table.now p members.old (left + 1) d k }
-    requires own_value { own ≡ omh.read d (sent_to status word table.now k p) }
-    ensures { (result ≡ decided omh own (dealt_votes omh statuses.now table.now p members.old left d k status word 10)) × (members.new ≡ members.old) }
+    requires asked { DealsFrom statuses.now table.now p members.old at }
+    requires more { 0 < at.left }
+    requires own_value { own ≡ omh.read at.d (sent_to sent.status sent.word table.now at.k p) }
+    ensures { VotedFrom omh statuses.now table.now p members.old at sent result members.new }
 {
     let wrapped = words::wrap(own);
     let mut reports = Reports::begin(own);
     for q in 0..Settings::MAX_CARDS {
         if members[q] {
             members[q] = false;
-            let sender = statuses[q];
-            let received = sent_to(status, word, table, k, q);
+            let status = statuses[q];
+            let received = sent_to(sent, table, at.k, q);
             // The own report is what a good relay sends on, unless the card that it heard is arbitrary.
-            let sends = exchange::sent_on(status, sender, d, received, wrapped);
-            let vote = vote_dealt(
-                statuses,
-                table,
-                p,
-                members,
-                left,
-                d + 1,
-                10 * k + 1 + q,
-                sender,
-                sends,
-            );
+            let word = exchange::sent_on(sent.status, status, at.d, received, wrapped);
+            let longer = Place {
+                left: at.left - 1,
+                d: at.d + 1,
+                k: 10 * at.k + 1 + q,
+            };
+            let vote = vote_dealt(statuses, table, p, members, longer, Sent { status, word });
             members[q] = true;
             reports.add(vote);
         }
@@ -112,18 +92,16 @@ fn dealt_answer(s: Settings, x: i32, statuses: &[u8], table: &[i32]) -> i32
     ensures { result ≡ answer_of (rule_of s.rack) (exchange (turn_of s) x statuses.now table.now) s.p }
 {
     let mut members = paths::may_relay(s);
-    let left = paths::rounds_left(s, 0);
-    vote_dealt(
-        statuses,
-        table,
-        s.p,
-        &mut members,
-        left,
-        0,
-        0,
-        statuses[s.t],
-        x,
-    )
+    let at = Place {
+        left: paths::rounds_left(s, 0),
+        d: 0,
+        k: 0,
+    };
+    let sent = Sent {
+        status: statuses[s.t],
+        word: x,
+    };
+    vote_dealt(statuses, table, s.p, &mut members, at, sent)
 }
 
 // The answer of the own card.

@@ -1,30 +1,12 @@
 -- Dealing as the code does it: what a card sends is handed down with its path, and a word is put in its place after those of the longer paths.
-use Rattle.std.specs.Prelude.{ℕ, ◌+◌, ◌-◌, ◌≤◌, ◌<◌, ◌≡◌, Bool, List, ℤ, length}
+use Rattle.std.specs.Prelude.{ℕ, ◌-◌, ◌≡◌, Bool, List, ℤ}
 use Rattle.words.specs.Rule.{Rule}
-use Rattle.settings.specs.Settings.{slots}
 use Rattle.settings.specs.declared.Turn.{Turn}
-use Rattle.paths.specs.Slots.{below, level}
 use Rattle.paths.specs.Walk.{put_in, put_below}
+use Rattle.paths.specs.declared.Place.{Place}
 use Rattle.exchange.specs.Exchange.{Exchange, exchange, status_of, dealt}
-use Rattle.exchange.specs.Asked.{table_words}
 use Rattle.exchange.specs.Sending.{Sends}
-use Rattle.dealing.specs.declared.Place.{Place}
-use Rattle.dealing.specs.declared.Sent.{Sent}
-
--- the longer path by card q
-abbrev pub by : Place → ℕ → Place
-by at q = record { left = at.left - 1; d = at.d + 1; k = below at.k q }
-
--- what dealing from a place is asked: whole lists, all ten cards, a card, and a slot of its level with at most three relays in all
-pub record DealsFrom (statuses : List ℕ) (table : List ℤ) (p : ℕ) (words : List ℤ) (members : List Bool) (at : Place) : Type 0 where
-  pub statuses_long : length statuses ≡ 10
-  pub table_long : length table ≡ table_words
-  pub words_long : length words ≡ slots
-  pub cards : length members ≡ 10
-  pub card : p < 10
-  pub slot : at.k < slots
-  pub here : level at.k ≡ at.d
-  pub deep : at.left + at.d ≤ 3
+use Rattle.exchange.specs.declared.Sent.{Sent}
 
 -- the word of p, by its slot alone
 abbrev pub dealt_to : Rule → Exchange → ℕ → List Bool → ℕ → ℕ → ℕ → ℤ

@@ -11,52 +11,23 @@ ghost use Rattle.vote.specs.Vote.{rule_of};
 ghost use Rattle.book.specs.Book.{book_of};
 ghost use Rattle.exchange.specs.Exchange.{exchange, dealt};
 ghost use Rattle.exchange.specs.Asked.{table_words};
-ghost use Rattle.exchange.specs.Sending.{sent_to, Deals};
+ghost use Rattle.exchange.specs.Sending.{sent_to, Deals, DealsFrom};
 ghost use Rattle.dealing.specs.Dealt.{dealt_over};
-ghost use Rattle.dealing.specs.DealOrder.{DealsFrom, DealtFrom, DealtBelow, by};
+ghost use Rattle.dealing.specs.DealOrder.{DealtFrom, DealtBelow};
 ghost use Rattle.dealing.specs.Asked.{word_asked, fill_asked};
 
+use exchange::Sent;
 use ground::refusal;
 use ground::refusal::Refusal;
+use paths::Place;
 use settings::Settings;
 
-// What a card of this status sends, `word` if it is good.
-#[derive(Clone, Copy)]
-struct Sent {
-    status: u8,
-    word: i32,
-}
-
-// The path at slot k of level d, with so many rounds left.
-#[derive(Clone, Copy)]
-struct Place {
-    left: usize,
-    d: usize,
-    k: usize,
-}
-
-impl Sent {
-    // What card p receives of it at slot k.
-    fn to(self, table: &[i32], k: usize, p: usize) -> i32
-        requires { (length table.now ≡ table_words) × (k < slots) × (p < 10) }
-        ensures { result ≡ sent_to self.status self.word table.now k p }
-    {
-        exchange::sent_by(self.status, self.word, table[10 * k + p], table[10 * k])
-    }
-}
-
-impl Place {
-    // The longer path by card q.
-    fn by(self, q: usize) -> Place
-        requires { (0 < self.left) × (self.d ≤ 3) × (self.k < slots) × (q < 10) }
-        ensures { result ≡ by self q }
-    {
-        Place {
-            left: self.left - 1,
-            d: self.d + 1,
-            k: 10 * self.k + 1 + q,
-        }
-    }
+// What card p receives at slot k of what is sent there.
+fn sent_to(sent: Sent, table: &[i32], k: usize, p: usize) -> i32
+    requires { (length table.now ≡ table_words) × (k < slots) × (p < 10) }
+    ensures { result ≡ sent_to sent.status sent.word table.now k p }
+{
+    sent.received(table[10 * k + p], table[10 * k])
 }
 
 // The word that card p receives at slot k.
@@ -66,14 +37,14 @@ fn dealt_at(t: usize, x: i32, statuses: &[u8], table: &[i32], k: usize, p: usize
 {
     if k == 0 {
         let status = statuses[t];
-        return Sent { status, word: x }.to(table, k, p);
+        return sent_to(Sent { status, word: x }, table, k, p);
     }
     let q = paths::last_relay(k);
     let above = paths::above(k);
     let received = dealt_at(t, x, statuses, table, above, q);
     let word = exchange::relayed(paths::level_of(above), received);
     let status = statuses[q];
-    Sent { status, word }.to(table, k, p)
+    sent_to(Sent { status, word }, table, k, p)
 }
 
 // The word that the own card receives on the path at a slot.
@@ -104,13 +75,14 @@ fn deal_from(
     at: Place,
     sent: Sent,
 )
-    requires { DealsFrom statuses.now table.now p words.old members.old at }
+    requires asked { DealsFrom statuses.now table.now p members.old at }
+    requires whole { length words.old ≡ slots }
     ensures { DealtFrom omh statuses.now table.now p members.old at sent words.old words.new members.new }
 {
     if 0 < at.left {
         deal_members(statuses, table, p, words, members, at, sent);
     }
-    words[at.k] = sent.to(table, at.k, p);
+    words[at.k] = sent_to(sent, table, at.k, p);
 }
 
 // Deals card p its words at the longer paths, by each member in turn.
@@ -124,24 +96,30 @@ fn deal_members(
     at: Place,
     sent: Sent,
 )
-    requires asked { DealsFrom statuses.now table.now p words.old members.old at }
+    requires asked { DealsFrom statuses.now table.now p members.old at }
+    requires whole { length words.old ≡ slots }
     requires more { 0 < at.left }
     ensures { DealtBelow omh statuses.now table.now p members.old at sent words.old 10 words.new members.new }
 {
-    let told = exchange::relayed(at.d, sent.to(table, at.k, 0));
+    let told = exchange::relayed(at.d, sent_to(sent, table, at.k, 0));
     for q in 0..Settings::MAX_CARDS {
         if members[q] {
             members[q] = false;
             let status = statuses[q];
-            let received = sent.to(table, at.k, q);
+            let received = sent_to(sent, table, at.k, q);
             let word = exchange::sent_on(sent.status, status, at.d, received, told);
+            let longer = Place {
+                left: at.left - 1,
+                d: at.d + 1,
+                k: 10 * at.k + 1 + q,
+            };
             deal_from(
                 statuses,
                 table,
                 p,
                 words,
                 members,
-                at.by(q),
+                longer,
                 Sent { status, word },
             );
             members[q] = true;
@@ -167,7 +145,7 @@ fn deal(s: Settings, x: i32, statuses: &[u8], table: &[i32], words: &mut [i32])
     if 0 < at.left {
         deal_members(statuses, table, s.p, words, &mut members, at, sent);
     }
-    words[0] = sent.to(table, 0, s.p);
+    words[0] = sent_to(sent, table, 0, s.p);
 }
 
 // Fills a book for the own card.

@@ -18,6 +18,8 @@ use Rattle.exchange.proofs.card_refused.Kinds as card_refused
 use Rattle.exchange.proofs.card_refused.Reads as card_refused_says
 use Rattle.exchange.proofs.sent_by.Kinds as sent_by
 use Rattle.exchange.proofs.sent_by.Reads as sent_by_says
+use Rattle.exchange.proofs.Sent.received.Kinds as received
+use Rattle.exchange.proofs.Sent.received.Reads as received_says
 use Rattle.exchange.proofs.relayed.Kinds as relayed
 use Rattle.exchange.proofs.relayed.Reads as relayed_says
 use Rattle.exchange.proofs.sent_on.Kinds as sent_on
@@ -40,6 +42,9 @@ card_refused_fixed κs a x y s t p q = refusal_apart x y (p ∙ sym q)
 
 pub sent_by_fixed : Fixes 0 sent_by.ps sent_by.r sent_by_says.Post ℤ (λ κs x s. x)
 sent_by_fixed κs a x y s t p q = p ∙ sym q
+
+pub received_fixed : Fixes 0 received.ps received.r received_says.Post ℤ (λ κs x s. x)
+received_fixed κs a x y s t p q = p ∙ sym q
 
 pub relayed_fixed : Fixes 0 relayed.ps relayed.r relayed_says.Post ℤ (λ κs x s. x)
 relayed_fixed κs a x y s t p q = p ∙ sym q

@@ -1,7 +1,10 @@
 -- Dealing words as the code does it, by status bytes and the table's places.
-use Rattle.std.specs.Prelude.{ℕ, ◌+◌, ◌*◌, ◌<◌, ◌≡◌, List, ℤ, length}
+use Rattle.std.specs.Prelude.{ℕ, ◌+◌, ◌-◌, ◌*◌, ◌≤◌, ◌<◌, ◌≡◌, Bool, List, ℤ, length}
 use Rattle.ground.specs.Lists.{at}
 use Rattle.words.specs.Rule.{Rule}
+use Rattle.settings.specs.Settings.{slots}
+use Rattle.paths.specs.Slots.{below, level}
+use Rattle.paths.specs.declared.Place.{Place}
 use Rattle.exchange.specs.declared.Status.{Status}
 use Rattle.exchange.specs.Exchange.{status_of, Exchange, sent, dealt}
 use Rattle.exchange.specs.Asked.{table_words}
@@ -19,3 +22,17 @@ pub record Deals (t : ℕ) (statuses : List ℕ) (words : List ℤ) : Type 0 whe
   pub sender : t < 10
   pub statuses_long : length statuses ≡ 10
   pub table_long : length words ≡ table_words
+
+-- the place of the longer path by card q
+abbrev pub by : Place → ℕ → Place
+by at q = record { left = at.left - 1; d = at.d + 1; k = below at.k q }
+
+-- what going on from a place is asked: whole lists, a card, all ten cards, and a slot of its level with at most three relays in all
+pub record DealsFrom (statuses : List ℕ) (words : List ℤ) (p : ℕ) (members : List Bool) (at : Place) : Type 0 where
+  pub statuses_long : length statuses ≡ 10
+  pub table_long : length words ≡ table_words
+  pub card : p < 10
+  pub cards : length members ≡ 10
+  pub slot : at.k < slots
+  pub here : level at.k ≡ at.d
+  pub deep : at.left + at.d ≤ 3

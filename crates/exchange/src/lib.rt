@@ -115,6 +115,22 @@ pub fn sent_by(status: u8, word: i32, own: i32, first: i32) -> i32
     }
 }
 
+// What a card of this status sends, `word` if it is good.
+#[derive(Clone, Copy, Debug, PartialEq, Eq)]
+pub struct Sent {
+    pub status: u8,
+    pub word: i32,
+}
+
+impl Sent {
+    // What a card receives of it, given the table's two words for it.
+    pub fn received(self, own: i32, first: i32) -> i32
+        ensures { result ≡ sent (status_of self.status) self.word own first }
+    {
+        sent_by(self.status, self.word, own, first)
+    }
+}
+
 // What a good card sends on of a word that it received at this level.
 pub fn relayed(level: usize, word: i32) -> i32
     ensures { result ≡ wrapped (read_at level word) }

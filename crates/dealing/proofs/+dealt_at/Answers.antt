@@ -13,7 +13,7 @@ pub returns-then-k-eq0 : goal.returns-then-k-eq0
 returns-then-k-eq0 t c rack =
     let a = c.args in
     dealt-first omh (exchange (record { rack = rack; t = a.t }) a.x a.statuses.now a.table.now) a.k a.p c.if-k-eq0.true (back_is c.ranges.x)
-    (back_is (sfits_of c.to.type_inv) ∙ c.to.ensures)
+    (back_is (sfits_of c.sent_to.type_inv) ∙ c.sent_to.ensures)
 
 pub returns : goal.returns
 returns t c rack =
@@ -25,4 +25,4 @@ returns t c rack =
     (back_is (sfits_of c.relayed-word.type_inv)
     ∙ c.relayed-word.ensures
     ∙ ap wrapped (ap₂ read_at c.level_of.ensures (back_is (sfits_of c.dealt_at-received.type_inv) ∙ rw (back_is c.ranges.x) at (c.dealt_at-received.ensures rack)))))
-    (back_is (sfits_of c.to-2.type_inv) ∙ rw relay at c.to-2.ensures)
+    (back_is (sfits_of c.sent_to-2.type_inv) ∙ rw relay at c.sent_to-2.ensures)
