@@ -39,7 +39,7 @@ unfolding dealt_over
 length-dealt R X p before = length-table slots 0 _
 
 -- dealt from slot 0 on, with all cards that may relay and all rounds, the words are dealt at every live slot
-pub dealt-all : (R : Rule) (s : Settings) (x : ℤ) (statuses : List ℕ) (words before : List ℤ) {members : List Bool} {left : ℕ} {word : ℤ} {after : List ℤ} → s.rack.m ≤ 3 → length before ≡ slots → members ≡ table 10 0 (may_relay s) → left ≡ rounds_left s 0 → word ≡ x → DealtFrom R statuses words s.p members (record { left = left; d = 0; k = 0 }) (record { status = get_or statuses s.t 0; word = word }) before after members → after ≡ dealt_over R (exchange (turn_of s) x statuses words) s.p before
+pub dealt-all : (R : Rule) (s : Settings) (x : ℤ) (statuses : List ℕ) (words before : List ℤ) {members members-after : List Bool} {left : ℕ} {word : ℤ} {after : List ℤ} → s.rack.m ≤ 3 → length before ≡ slots → members ≡ table 10 0 (may_relay s) → left ≡ rounds_left s 0 → word ≡ x → DealtFrom R statuses words s.p members (record { left = left; d = 0; k = 0 }) (record { status = get_or statuses s.t 0; word = word }) before after members-after → after ≡ dealt_over R (exchange (turn_of s) x statuses words) s.p before
 unfolding dealt_over
 dealt-all R s x statuses words before few long e f g h =
     let X = exchange (turn_of s) x statuses words in

@@ -65,6 +65,7 @@ pub fn word_for(
 }
 
 // Deals card p its word of what is sent at a place, after its words at the longer paths; `members` are the cards that may still relay.
+#[inline(always)]
 #[cycle(deal_from_deal_members)]
 fn deal_from(
     statuses: &[u8],
@@ -127,7 +128,7 @@ fn deal_members(
     }
 }
 
-// Deals the words of the own card at its live slots. Slot 0 is dealt here: called by the loop alone, `deal_from` folds into it.
+// Deals the words of the own card at its live slots.
 fn deal(s: Settings, x: i32, statuses: &[u8], table: &[i32], words: &mut [i32])
     requires { Deals s.t statuses.now table.now × (s.rack.m ≤ 3) × (s.p < 10) × (length words.old ≡ slots) }
     ensures { words.new ≡ dealt_over (rule_of s.rack) (exchange (turn_of s) x statuses.now table.now) s.p words.old }
@@ -142,10 +143,7 @@ fn deal(s: Settings, x: i32, statuses: &[u8], table: &[i32], words: &mut [i32])
         status: statuses[s.t],
         word: x,
     };
-    if 0 < at.left {
-        deal_members(statuses, table, s.p, words, &mut members, at, sent);
-    }
-    words[0] = sent_to(sent, table, 0, s.p);
+    deal_from(statuses, table, s.p, words, &mut members, at, sent);
 }
 
 // Fills a book for the own card.

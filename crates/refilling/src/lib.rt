@@ -46,7 +46,8 @@ fn refill_all(s: Settings, words: &[i32], votes: &mut [i32])
     refill_from(words, votes, &mut members, at);
 }
 
-// The vote at a place from the words; it is put in its place, after those of the longer paths. `members` are the cards that may still relay.
+// The vote at a place from the words; it is put in its place, after those of the longer paths. `members` are the cards that may still relay. Inline, so that a vote without longer paths costs the loop no call.
+#[inline(always)]
 #[cycle(refill_from_refill_members)]
 fn refill_from(
     words: &[i32],
@@ -61,8 +62,6 @@ fn refill_from(
     let own = words::read_at(at.d, words[at.k]);
     let vote = if at.left == 0 {
         own
-    } else if at.left == 1 {
-        refill_last(words, votes, members, own, at)
     } else {
         refill_members(words, votes, members, own, at)
     };
@@ -95,30 +94,6 @@ fn refill_members(
             };
             let vote = refill_from(words, votes, members, next);
             members[q] = true;
-            reports.add(vote);
-        }
-    }
-    reports.decide()
-}
-
-// The same where no round is left for the longer paths: the vote of each is its reading.
-fn refill_last(
-    words: &[i32],
-    votes: &mut [i32],
-    members: &[bool; Settings::MAX_CARDS],
-    own: i32,
-    at: Place,
-) -> i32
-    requires asked { Fills (book_of words.now votes.old) at }
-    requires last { at.left ≡ 1 }
-    ensures { RefillingBelow omh (book_of words.now votes.old) members.now at own result (book_of words.now votes.new) }
-{
-    let mut reports = Reports::begin(own);
-    for q in 0..Settings::MAX_CARDS {
-        if members[q] {
-            let slot = 10 * at.k + 1 + q;
-            let vote = words::read_at(at.d + 1, words[slot]);
-            votes[slot] = vote;
             reports.add(vote);
         }
     }
