@@ -45,7 +45,8 @@ fn vote_dealt(
     if at.left == 0 {
         return own;
     }
-    over_dealt(statuses, table, p, members, own, at, sent)
+    // A copy made here: handed on as it came, a place would be stored for a vote without longer paths too.
+    over_dealt(statuses, table, p, members, own, Place { ..at }, sent)
 }
 
 // Decides the vote from the own reading and the votes of the longer paths, by each member in turn.
