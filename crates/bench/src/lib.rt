@@ -67,6 +67,7 @@ fn over_dealt(
 {
     let wrapped = words::wrap(own);
     let mut reports = Reports::begin(own);
+    // Stays a loop over numbers: the members change while a longer path is gone over.
     for q in 0..Settings::MAX_CARDS {
         if members[q] {
             members[q] = false;

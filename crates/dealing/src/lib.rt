@@ -103,6 +103,7 @@ fn deal_members(
     ensures { DealtBelow omh statuses.now table.now p members.old at sent words.old 10 words.new members.new }
 {
     let told = exchange::relayed(at.d, sent_to(sent, table, at.k, 0));
+    // Stays a loop over numbers: the members change while a longer path is gone over.
     for q in 0..Settings::MAX_CARDS {
         if members[q] {
             members[q] = false;

@@ -86,6 +86,7 @@ fn walk_up(
     let first = remake(held, votes, members, left, d, slot);
     votes[slot] = first;
     let mut k = slot;
+    // Stays: it goes up a path, slot by slot; there is no list to go over.
     while 0 < k {
         members[paths::last_relay(k)] = true;
         k = paths::above(k);

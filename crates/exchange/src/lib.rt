@@ -17,7 +17,7 @@ use words::{E, Kind};
 // The table has a word for each slot and receiver.
 pub const TABLE: usize = Settings::SLOTS * Settings::MAX_CARDS;
 
-// The greatest status byte.
+// The greatest status byte. Stays a number: it bounds a byte of the list that C lends (`status_bad`).
 const LAST_STATUS: u8 = 3;
 
 // What a card is on the bench.
@@ -103,6 +103,7 @@ pub fn card_refused(s: Settings, x: i32, statuses: &[u8], long: bool) -> Result<
 }
 
 // What a card receives from one of this status, which sends `word` if it is good; the table has two words for it, the receiver's own and receiver 0's.
+// The status stays a byte here and below: any byte has an answer (clause `sent (status_of status)`).
 #[tactic(auto, unfolding(crate::specs::Exchange::sent))]
 pub fn sent_by(status: u8, word: i32, own: i32, first: i32) -> i32
     ensures { result ≡ sent (status_of status) word own first }

@@ -121,6 +121,7 @@ fn take_out(members: &mut [bool; Settings::MAX_CARDS], slot: usize) -> bool
     ensures { outcome result members.new ≡ take_out members.old (relays slot) }
 {
     let mut k = slot;
+    // Stays: it goes up a path, slot by slot; there is no list to go over.
     while 0 < k {
         let q = last_relay(k);
         if members.len() <= q {

@@ -63,7 +63,8 @@ fn refill_from(
     let vote = if at.left == 0 {
         own
     } else {
-        refill_members(words, votes, members, own, at)
+        // A copy made here: handed on as it came, a place would be stored for a vote without longer paths too.
+        refill_members(words, votes, members, own, Place { ..at })
     };
     votes[at.k] = vote;
     vote
@@ -84,6 +85,7 @@ fn refill_members(
     ensures members_unchanged { members.new ≡ members.old }
 {
     let mut reports = Reports::begin(own);
+    // Stays a loop over numbers: the members change while a longer path is gone over.
     for q in 0..Settings::MAX_CARDS {
         if members[q] {
             members[q] = false;

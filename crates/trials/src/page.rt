@@ -91,6 +91,7 @@ impl Page {
         ensures { result ≡ lines (fits rack) (line_at statuses.now answers.now) most_cards }
     {
         let mut page = Page::new();
+        // Stays: over the two lists zipped the proof did not close; what is left of the iterator says nothing of the lines put.
         for p in 0..Settings::MAX_CARDS {
             if settings::fits(rack, p) {
                 page.put_line(p as u8, statuses[p], answers[p]);

@@ -30,7 +30,8 @@ fn instance(words: &[i32], members: &mut [bool; Settings::MAX_CARDS], at: Place)
     if at.left == 0 {
         return own;
     }
-    over_members(words, members, own, at)
+    // A copy made here: handed on as it came, a place would be stored for a vote without longer paths too.
+    over_members(words, members, own, Place { ..at })
 }
 
 // Decides the vote from the own reading and the votes of the longer paths, by each member in turn.
@@ -47,6 +48,7 @@ fn over_members(
     ensures members_unchanged { members.new ≡ members.old }
 {
     let mut reports = Reports::begin(own);
+    // Stays a loop over numbers: the members change while a longer path is gone over.
     for q in 0..Settings::MAX_CARDS {
         if members[q] {
             members[q] = false;

@@ -97,7 +97,7 @@ pub fn weight(word: i32) -> usize
 fn kept_len(list: &[i32]) -> usize
     ensures { result ≡ length (kept omh.struck list.now) }
 {
-    // A loop: a filtered count is compiled without vectors.
+    // Stays: a filtered count is compiled without vectors.
     let mut left = list.len();
     for &word in list {
         if is_struck(word) {
@@ -122,6 +122,7 @@ fn majority_of(list: &[i32], n: usize) -> i32
 {
     let half = n / 2;
     let mut rest = list;
+    // Stays: two loops, the outer left by its label with the word (document 01, 'Forms to follow in each place').
     'outer: loop {
         if rest.len() <= half {
             break 'outer E;
