@@ -120,9 +120,9 @@ fn answer_all(turn: Turn, x: i32, statuses: &[u8], table: &[i32], answers: &mut 
     ensures { answers.new ≡ answers_of (rule_of turn.rack) (exchange turn x statuses.now table.now) answers.old }
 {
     let rack = turn.rack;
-    for p in 0..Settings::MAX_CARDS {
+    for (p, answer) in answers.iter_mut().enumerate() {
         if settings::fits(rack, p) {
-            answers[p] = dealt_answer(Settings { rack, t: turn.t, p }, x, statuses, table);
+            *answer = dealt_answer(Settings { rack, t: turn.t, p }, x, statuses, table);
         }
     }
 }

@@ -10,7 +10,6 @@ use lib.Dec.{T, ltb}
 use lib.IntN.{ℤ, pos}
 use lib.ListN.{length, get_or, set, length-set}
 use lib.Seq.{ext_get_or, get_or-set_same, get_or-set_other}
-use borrow.Author.Count.{below_more}
 use borrow.Author.Tests.{ltb-true, ltb-false}
 use Rattle.std.specs.List.{filter, range_with_len}
 use Rattle.ground.specs.Lists.{at, table, over, count, some_of}
@@ -68,14 +67,6 @@ module _ {n : ℕ} {f : ℕ → ℤ} {before : List ℤ} {k : ℕ} {l : List ℤ
       long = length-set l k v ∙ r.long;
       done = set_next f l k v (pos 0) (omega (arith, r.long)) r.done e;
       rest = λ j g. get_or-set_other l k j v (pos 0) (λ q. omega arith) ∙ r.rest j (omega arith);
-    })
-
-    pub passed_same : at before k ≡ f k → after ≡ l → Passed n f before (k + 1) after
-    passed_same e a = rw a (record {
-      upto = omega arith;
-      long = r.long;
-      done = below_more (λ j. at l j ≡ f j) k r.done (r.rest k (omega arith) ∙ e);
-      rest = λ j g. r.rest j (omega arith);
     })
 
   -- where f changes no place from k on, the list is f's table

@@ -72,21 +72,6 @@ module _ (s : Settings) (d : ℕ) where
 
 -- ---- room for the rounds left
 
-pub room_less : (r k q : ℕ) → r + 1 ≤ 3 → k < room (r + 1) → q < 10 → below k q < room r
-room_less zero k q a b c = omega arith
-room_less (suc zero) k q a b c = omega arith
-room_less (suc (suc zero)) k q a b c = omega arith
-room_less (suc (suc (suc r))) k q a b c = absurd (omega arith)
-
-pub room_most : (r k : ℕ) → k < room r → k < 1111
-room_most zero k h = omega arith
-room_most (suc zero) k h = omega arith
-room_most (suc (suc zero)) k h = omega arith
-room_most (suc (suc (suc r))) k h = omega arith
-
-pub room_back : (r : ℕ) → (r ≡ 0 → ⊥) → room (r - 1 + 1) ≡ room r
-room_back r n = let e : r - 1 + 1 ≡ r = omega arith in ap room e
-
 -- slot 0 leaves room for any rounds
 pub room_zero : (r : ℕ) → 0 < room r
 room_zero zero = omega arith

@@ -46,8 +46,7 @@ fn refill_all(s: Settings, words: &[i32], votes: &mut [i32])
     refill_from(words, votes, &mut members, at);
 }
 
-// The vote at a place from the words; it is put in its place, after those of the longer paths. `members` are the cards that may still relay. Inline, so that a vote without longer paths costs the loop no call.
-#[inline(always)]
+// The vote at a place from the words; it is put in its place, after those of the longer paths. `members` are the cards that may still relay.
 #[cycle(refill_from_refill_members)]
 fn refill_from(
     words: &[i32],
@@ -62,9 +61,10 @@ fn refill_from(
     let own = words::read_at(at.d, words[at.k]);
     let vote = if at.left == 0 {
         own
+    } else if at.left == 1 {
+        refill_last(words, votes, members, own, at)
     } else {
-        // A copy made here: handed on as it came, a place would be stored for a vote without longer paths too.
-        refill_members(words, votes, members, own, Place { ..at })
+        refill_members(words, votes, members, own, at)
     };
     votes[at.k] = vote;
     vote
@@ -96,6 +96,31 @@ fn refill_members(
             };
             let vote = refill_from(words, votes, members, next);
             members[q] = true;
+            reports.add(vote);
+        }
+    }
+    reports.decide()
+}
+
+// The same where no round is left for the longer paths: the vote of each is its reading.
+// Stays: with a call for each of them refilling at (10, 3) takes 27 % more instructions, and misses bars of time that it meets.
+fn refill_last(
+    words: &[i32],
+    votes: &mut [i32],
+    members: &[bool; Settings::MAX_CARDS],
+    own: i32,
+    at: Place,
+) -> i32
+    requires asked { Fills (book_of words.now votes.old) at }
+    requires last { at.left ≡ 1 }
+    ensures { RefillingBelow omh (book_of words.now votes.old) members.now at own result (book_of words.now votes.new) }
+{
+    let mut reports = Reports::begin(own);
+    for (q, &may) in members.iter().enumerate() {
+        if may {
+            let slot = 10 * at.k + 1 + q;
+            let vote = words::read_at(at.d + 1, words[slot]);
+            votes[slot] = vote;
             reports.add(vote);
         }
     }

@@ -30,8 +30,7 @@ fn instance(words: &[i32], members: &mut [bool; Settings::MAX_CARDS], at: Place)
     if at.left == 0 {
         return own;
     }
-    // A copy made here: handed on as it came, a place would be stored for a vote without longer paths too.
-    over_members(words, members, own, Place { ..at })
+    over_members(words, members, own, at)
 }
 
 // Decides the vote from the own reading and the votes of the longer paths, by each member in turn.

@@ -97,7 +97,7 @@ pub fn weight(word: i32) -> usize
 fn kept_len(list: &[i32]) -> usize
     ensures { result ≡ length (kept omh.struck list.now) }
 {
-    // Stays: a filtered count is compiled without vectors.
+    // Stays: counted by a filter, without vectors, the majority of 6 takes 30 instructions more and that of 9 takes 60; both miss bars that they meet.
     let mut left = list.len();
     for &word in list {
         if is_struck(word) {

@@ -1,4 +1,4 @@
-use Prim.Native.Nat.{ℕ, ◌-◌}
+use Prim.Native.Nat.{ℕ}
 use mathlib.Core.Bool.{cond}
 use mathlib.Core.List.{List}
 use lib.IntN.{ℤ}
@@ -16,6 +16,3 @@ place turn x statuses words before p = cond (fits turn.rack p) (answer_of (rule_
 
 abbrev pub invariant-loop-p : goal.invariant-loop-p
 invariant-loop-p l = Passed 10 (place l.turn l.x l.statuses l.table l.initial.answers) l.initial.answers l.p l.answers
-
-abbrev pub decreases-loop-p : goal.decreases-loop-p
-decreases-loop-p l = 10 - l.p

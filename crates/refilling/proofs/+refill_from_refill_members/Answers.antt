@@ -6,7 +6,7 @@ use Rattle.words.specs.Rule.{omh}
 use Rattle.paths.proofs.Handed.{put_back}
 use Rattle.refilling.proofs.RefillOrder.{refill_reading, refill_decided, place_first, place_more, place_same, place_done}
 use Rattle.refilling.proofs.+refill_from_refill_members.Goals as goal
-use Rattle.refilling.proofs.+refill_from_refill_members.Goals.{refill_members-then-members-q, refill_members-else-members-q, refill_from-then-at-eq0, refill_from-else-at-eq0}
+use Rattle.refilling.proofs.+refill_from_refill_members.Goals.{refill_members-then-members-q, refill_members-else-members-q, refill_from-then-at-eq0, refill_from-else-at-eq0+then-at-eq1, refill_from-else-at-eq0+else-at-eq1}
 
 pub refill_from-returns-clause-refilling : goal.refill_from-returns-clause-refilling
 refill_from-returns-clause-refilling t c =
@@ -14,8 +14,10 @@ refill_from-returns-clause-refilling t c =
     elim c.if-at-eq0.branch [
       | refill_from-then-at-eq0 w ↦
           refill_reading omh _ _ _ _ w.if-at-eq0.true w.votes-is (w.vote-is ∙ own)
-      | refill_from-else-at-eq0 w ↦
-          refill_decided omh _ _ _ _ w.if-at-eq0.false w.votes-is own w.refill_members-vote.ensures.refilling_below (w.vote-is ∙ back_is (sfits_of w.refill_members-vote.type_inv))
+      | refill_from-else-at-eq0+then-at-eq1 w ↦
+          refill_decided omh _ _ _ _ w.if-at-eq0.false w.votes-is own w.refill_last.ensures (w.vote-is ∙ back_is (sfits_of w.refill_last.type_inv))
+      | refill_from-else-at-eq0+else-at-eq1 w ↦
+          refill_decided omh _ _ _ _ w.if-at-eq0.false w.votes-is own w.refill_members.ensures.refilling_below (w.vote-is ∙ back_is (sfits_of w.refill_members.type_inv))
     ]
 
 pub refill_members-loop-q-init : goal.refill_members-loop-q-init
