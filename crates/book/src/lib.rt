@@ -16,7 +16,7 @@ use words::E;
 // A book in one list: the words, and then the votes.
 pub const BOOK: usize = 2 * Settings::SLOTS;
 
-// Whether both lists have their right length.
+// Whether both lists have their right length. They stay two: C lends them so (`omh_open`).
 pub fn is_whole(words: &[i32], votes: &[i32]) -> bool
     ensures { result ≡ sized (book_of words.now votes.now) }
 {

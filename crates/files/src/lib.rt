@@ -2,7 +2,7 @@
 
 #![tactic(auto)]
 
-ghost use Rattle.std.specs.Prelude.{◌≡◌, ◌<◌};
+ghost use Rattle.std.specs.Prelude.{◌≡◌};
 ghost use Rattle.ground.specs.Checks.{verdict};
 ghost use Rattle.ground.specs.Answer.{refusal_of, of_result};
 ghost use Rattle.files.specs.File as spec;
@@ -32,8 +32,8 @@ pub struct Head {
 // A word for a slot and a receiver.
 #[derive(Clone, Copy, Debug, PartialEq, Eq)]
 struct Exception {
-    slot: usize,
-    receiver: usize,
+    slot: u16,
+    receiver: u8,
     word: i32,
 }
 
@@ -56,32 +56,30 @@ fn head_of(file: &[u8]) -> Head
 }
 
 // The number of exceptions, which two bytes hold.
-fn exceptions(file: &[u8]) -> usize
-    ensures { (result ≡ spec.exceptions file.now) × (result < 65536) }
+fn exceptions(file: &[u8]) -> u16
+    ensures { result ≡ spec.exceptions file.now }
 {
-    bytes::get16(file, 22) as usize
+    bytes::get16(file, 22)
 }
 
 // The exception that the file has at this place, counted from 0; two bytes hold its slot, one its receiver.
-fn exception_at(file: &[u8], i: usize) -> Exception
-    requires { i < 65536 }
-    ensures { (result ≡ spec.exception_at file.now i) × (result.slot < 65536) × (result.receiver < 256) }
+fn exception_at(file: &[u8], i: u16) -> Exception
+    ensures { result ≡ spec.exception_at file.now i }
 {
-    let at = HEAD + EXCEPTION_SIZE * i;
+    let at = HEAD + EXCEPTION_SIZE * i as usize;
     Exception {
-        slot: bytes::get16(file, at) as usize,
-        receiver: bytes::byte_at(file, at + 2) as usize,
+        slot: bytes::get16(file, at),
+        receiver: bytes::byte_at(file, at + 2),
         word: bytes::from_bits(bytes::get32(file, at + 3)),
     }
 }
 
 #[tactic(auto, unfolding(crate::specs::File::exception_bad))]
-fn exception_bad(file: &[u8], i: usize) -> bool
-    requires { i < 65536 }
+fn exception_bad(file: &[u8], i: u16) -> bool
     ensures { result ≡ spec.exception_bad file.now i }
 {
     let e = exception_at(file, i);
-    (Settings::SLOTS <= e.slot) | (Settings::MAX_CARDS <= e.receiver)
+    (Settings::SLOTS <= e.slot as usize) | (Settings::MAX_CARDS <= e.receiver as usize)
 }
 
 fn exceptions_bad(file: &[u8]) -> bool
@@ -95,7 +93,7 @@ fn exceptions_bad(file: &[u8]) -> bool
 fn shape_refused(file: &[u8]) -> Result<(), Refusal>
     ensures { refusal_of result ≡ verdict (spec.shape_checks file.now) }
 {
-    let number = exceptions(file);
+    let number = exceptions(file) as usize;
     refusal::when(file.len() < HEAD, Refusal::Size)?;
     refusal::when(!bytes::starts_with(file, &MARK), Refusal::Mark)?;
     refusal::when(bytes::get16(file, 3) != VERSION, Refusal::Version)?;
@@ -126,12 +124,11 @@ pub fn read(file: &[u8]) -> Result<Head, Refusal>
 
 // Puts the word of an exception in its place, where the table has it.
 // Stays: of what is written through a slice's `get_mut` a proof knows the length only.
-fn tell_one(file: &[u8], i: usize, table: &mut [i32])
-    requires { i < 65536 }
+fn tell_one(file: &[u8], i: u16, table: &mut [i32])
     ensures { table.new ≡ spec.told_one file.now i table.old }
 {
     let e = exception_at(file, i);
-    let place = 10 * e.slot + e.receiver;
+    let place = 10 * e.slot as usize + e.receiver as usize;
     if place < table.len() {
         table[place] = e.word;
     }

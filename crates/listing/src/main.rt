@@ -30,7 +30,7 @@ fn read_input(mut input: Stdin, file: &mut [u8]) -> io::Result<usize>
     ensures { IfOk result (λ many. many ≤ length file.new) }
 {
     let mut many = 0;
-    // Stays: `read_to_end` wants a Vec, and no card has a heap.
+    // Stays: `read_to_end` wants a Vec, and nothing here lies on a heap.
     while many < file.len() {
         let more = input.read(&mut file[many..])?;
         if more == 0 {

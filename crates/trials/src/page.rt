@@ -76,6 +76,7 @@ impl Page {
         }
     }
 
+    // The status stays a byte: it is printed.
     fn put_line(&mut self, p: u8, status: u8, word: i32)
         requires { (p < 10) × (status < 10) × (length self.old + 16 ≤ TEXT) }
         ensures { self.new ≡ self.old ++ line_of p status word }

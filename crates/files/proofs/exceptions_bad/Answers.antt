@@ -20,5 +20,5 @@ any_table f (suc n) s = rw (add-one s, any_table f n (suc s))
 pub returns : goal.returns
 returns c =
     let file = c.args.file.now in
-    any_from_yields_List (exception_bad file) _ _ _ c.any.ensures.ran (YieldsList-from_range 0 _ (exceptions file) refl (omega (arith, c.exceptions.ensures.0))) (λ x b q k. search (rules, tests))
+    any_from_yields_List (exception_bad file) _ _ _ c.any.ensures.ran (YieldsList-from_range 0 _ (exceptions file) refl (omega (arith, c.exceptions.ensures))) (λ x b q k. search (rules, tests))
     ∙ any_table (exception_bad file) (exceptions file) 0
