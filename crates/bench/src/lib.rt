@@ -21,7 +21,7 @@ use vote::reports::Reports;
 
 // What card p receives at slot k of what is sent there.
 // Stays in both `bench` and `dealing`: a public one may ask nothing and would test the places, and one card's answer took 6 % more instructions.
-// Statuses and table stay two lists: C lends them so, and of one struct every clause would have to name the lists as they were handed (`.entry`).
+// Statuses and table stay two lists: C lends them so, and of one struct every clause would have to name the lists as they were handed (`.entry`). Nor have settings an invariant: every entry point takes any.
 fn sent_to(sent: Sent, table: &[i32], k: usize, p: usize) -> i32
     requires { (length table.now ≡ table_words) × (k < slots) × (p < 10) }
     ensures { result ≡ sent_to sent.status sent.word table.now k p }
