@@ -13,7 +13,7 @@ use settings::{Settings, Turn};
 use words::E;
 
 // The words of an outcome that is lent as a list, row after row.
-const LIST: usize = 100;
+const LIST: usize = Settings::MAX_CARDS * Settings::MAX_CARDS;
 
 // All E.
 pub fn start() -> [[i32; Settings::MAX_CARDS]; Settings::MAX_CARDS]
