@@ -17,7 +17,6 @@ fn put(n: u32, at: usize, out: &mut [u8]) -> usize
 }
 
 // Stores the text of a word, and answers its length; the places after it are untouched.
-// Stays: the clauses name the bytes of `out`, and std's `Display` says of what it writes nothing that would prove them.
 pub fn decimal(word: i32, out: &mut [u8; 12]) -> usize
     ensures { (result ≡ length (decimal_of word)) × (out.new ≡ decimal_of word ++ drop (length (decimal_of word)) out.old) }
 {
