@@ -103,7 +103,7 @@ fn refill_members(
 }
 
 // The same where no round is left for the longer paths: the vote of each is its reading.
-// Stays: with a call for each of them refilling at (10, 3) takes 27 % more instructions, and misses bars of time that it meets.
+// Stays: with a call for each of them refilling at (10, 3) takes a quarter more instructions and a quarter more time (docs/DESIGN-PASS.md).
 fn refill_last(
     words: &[i32],
     votes: &mut [i32],
