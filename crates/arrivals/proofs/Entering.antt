@@ -1,10 +1,10 @@
--- A frame that is not refused is its word entered at its path's slot, and one that is has the number of the first check that applies.
+-- A frame that is not refused is its word entered at its path's slot, and one that is has the number of the first check that applies; when 12, 13 and 15 are given.
 use Prim.Native.Nat.{ℕ, zero, suc, ◌≤◌}
 use mathlib.Core.Path.{◌≡◌, refl, sym, ap, ◌∙◌, subst}
-use mathlib.Core.Bool.{Bool, true, not, ◌&&◌}
+use mathlib.Core.Bool.{Bool, true, false, not, ◌&&◌}
 use mathlib.Core.List.{List, [], ◌∷◌, ◌++◌}
 use native.Mathlib.Omega.{arith}
-use lib.Dec.{T, ltb, leb, leb→le}
+use lib.Dec.{T, eqb, ltb, leb, leb→le}
 use borrow.Author.Tests.{le-leb, lt-ltb, not-false}
 use Rattle.std.specs.Prelude.{Result, Ok, Err}
 use Rattle.ground.specs.Refusal as refusal
@@ -25,6 +25,8 @@ use Rattle.book.specs.Asked.{book_checks}
 use Rattle.entering.specs.Entered.{entered}
 use Rattle.entering.specs.declared.Entry.{Entry}
 use Rattle.entering.specs.Asked.{enter_asked}
+use Rattle.ages.specs.Ages.{age_of, class_of}
+use Rattle.ages.specs.declared.Age.TheVariants.{Current, Old, Ahead}
 use Rattle.frames.specs.Frame.{frame_of, relay_formed, well_formed}
 use Rattle.frames.specs.Asked.{read_checks}
 use Rattle.frames.specs.declared.Frame.{Frame}
@@ -64,6 +66,25 @@ module _ (f : Frame) (w : well_formed f ≡ true) where
   unfolding slot_asked
   path_formed = (value-verdict _ _ slot_formed).0
 
+-- ---- old, ahead, another book's
+
+module _ (s : Settings) (current : ℕ) (f : Frame) where
+  pub by_old : class_of (age_of current f.exchange) ≡ Old → 12 ≡ verdict (timely_checks s current f)
+  unfolding verdict
+  by_old e = rw e
+
+  pub by_ahead : class_of (age_of current f.exchange) ≡ Ahead → 13 ≡ verdict (timely_checks s current f)
+  unfolding verdict
+  by_ahead e = rw e
+
+  pub by_foreign : class_of (age_of current f.exchange) ≡ Current → (eqb f.sender s.t && eqb f.receiver s.p) ≡ false → 15 ≡ verdict (timely_checks s current f)
+  unfolding verdict
+  by_foreign e h = rw (e, h)
+
+  pub timely : class_of (age_of current f.exchange) ≡ Current → (eqb f.sender s.t && eqb f.receiver s.p) ≡ true → 0 ≡ verdict (timely_checks s current f)
+  unfolding verdict
+  timely e h = rw (e, h)
+
 -- ---- the verdict on a frame by itself
 
 module _ (s : Settings) (current : ℕ) (bytes : List ℕ) (reads : verdict (read_checks bytes) ≡ 0) where
@@ -95,7 +116,7 @@ module _ (cs : List Check) (p : T (proper cs)) (s : Settings) (current : ℕ) (b
   entry e = outcome_by (verdict (cs ++ slot_after e.slot)) before (made e)
 
   -- a frame that is not refused by itself is its entry entered
-  frame_is : verdict (frame_checks s current bytes) ≡ 0 → framed ≡ entry (frame_entry (frame_of bytes))
+  pub frame_is : verdict (frame_checks s current bytes) ≡ 0 → framed ≡ entry (frame_entry (frame_of bytes))
   frame_is none =
       let slot = slot_after (frame_slot (frame_of bytes)) in
       ap (λ (v : ℕ). outcome_by v before (made (frame_entry (frame_of bytes))))

@@ -1,7 +1,7 @@
 -- Laws of the text: what each piece is, how long it is, and that lines of the same words are the same.
 use Prim.Native.Nat.{ℕ, zero, suc, ◌+◌, ◌*◌, ◌≤◌, ◌<◌}
 use mathlib.Core.Path.{◌≡◌, refl, sym, ap₂, ◌∙◌}
-use mathlib.Core.Bool.{Bool, cond}
+use mathlib.Core.Bool.{Bool, true, false, cond}
 use mathlib.Core.List.{List, [], ◌∷◌, ◌++◌}
 use native.Mathlib.Numerals.{add-one}
 use native.Mathlib.Omega.{arith}
@@ -18,7 +18,7 @@ use Rattle.words.specs.Majority.{same}
 use Rattle.words.proofs.Same.{bits_same, same_sym}
 use Rattle.text.specs.Decimal.{decimal_of}
 use Rattle.text.proofs.Laws.{length-text}
-use Rattle.trials.specs.Listing.{ending, answer_text, line_of, lines}
+use Rattle.trials.specs.Listing.{ending, answer_text, line_of, lines, bound_line}
 
 -- ---- an answer's text, by the machine's test of its word
 
@@ -46,6 +46,11 @@ length_answer w = cond-case (λ (l : List ℕ). length l ≤ 11) (same E w) _ _ 
 pub length_line : (p status : ℕ) (w : ℤ) → length (line_of p status w) ≤ 16
 unfolding line_of
 length_line p status w = rw (length-append (answer_text w) ending) (omega (arith, length_answer w))
+
+pub length_bound : (b : Bool) → length (bound_line b) ≤ 15
+unfolding bound_line
+length_bound true = omega arith
+length_bound false = omega arith
 
 -- ---- a line to each card that passes
 

@@ -1,18 +1,20 @@
 -- The text of a file: its card lines from all answers, and the whole by what its checks say.
-use Prim.Native.Nat.{ℕ, ◌<◌}
+use Prim.Native.Nat.{ℕ, ◌≤◌, ◌<◌}
 use mathlib.Core.Path.{◌≡◌, refl, ap, ◌∙◌}
 use mathlib.Core.Bool.{Bool}
 use mathlib.Core.List.{List, ◌++◌}
 use native.Mathlib.Nat.{zero-add}
+use native.Mathlib.Omega.{arith}
 use lib.Dec.{T}
 use lib.IntN.{ℤ, pos}
-use lib.ListN.{get_or}
+use lib.ListN.{length, get_or, length-append}
 use Rattle.ground.specs.Checks.{verdict}
 use Rattle.ground.specs.Lists.{at}
 use Rattle.ground.specs.Answer.{value}
 use Rattle.ground.proofs.Answers.{answer-refused, answer-given}
 use Rattle.ground.proofs.Bools.{cond_yes}
 use Rattle.ground.proofs.Lists.{at_table}
+use Rattle.text.specs.Decimal.{decimal_of}
 use Rattle.settings.specs.Settings.{most_cards, fits}
 use Rattle.settings.specs.declared.Rack.{Rack}
 use Rattle.vote.specs.Vote.{rule_of}
@@ -23,8 +25,8 @@ use Rattle.files.specs.File.{turn_in, statuses, exchange_of, file_checks}
 use Rattle.files.specs.declared.Head.{Head}
 use Rattle.trials.specs.Accepting.{Accepted}
 use Rattle.trials.proofs.Asking.{bound_is}
-use Rattle.trials.specs.Listing.{line_of, line_at, lines, bound_line, refused_line, card_line, listed, printed, text_of}
-use Rattle.trials.proofs.Lines.{lines_same}
+use Rattle.trials.specs.Listing.{ending, line_of, line_at, lines, bound_line, refused_line, card_line, listed, printed, text_of}
+use Rattle.trials.proofs.Lines.{length_word, length_line, length_bound, length_lines, lines_same}
 
 module _ (file : List ℕ) where
   -- ---- the lines of the cards
@@ -37,9 +39,16 @@ module _ (file : List ℕ) where
     pub card-lines : {rack : Rack} → rack ≡ (turn_in file).rack → lines (fits rack) (line_at (statuses file) list) 10 ≡ lines (fits (turn_in file).rack) (card_line file) 10
     card-lines q = rw q (lines_same _ _ (card_line file) 10 (λ p h t. ap (line_of p (get_or (statuses file) p 0)) (answer_at p h t)))
 
+  pub length-cards : length (lines (fits (turn_in file).rack) (card_line file) 10) ≤ 160
+  length-cards = length_lines (fits (turn_in file).rack) (card_line file) (λ p. length_line p _ _) 10
+
   -- by the bound's answer
   pub listed_as : {h : Head} → Accepted file h → {held : Bool} → value held ≡ bound_asked h.turn.rack (statuses file) → lines (fits (turn_in file).rack) (card_line file) most_cards ++ bound_line held ≡ listed file
   listed_as a e = rw (bound_is file a e)
+
+  -- at most ten lines of 16 bytes and one of 15
+  pub length-listed : length (listed file) ≤ 175
+  length-listed = simp length-append (omega (arith, length-cards, length_bound))
 
   -- ---- the text
 
@@ -50,3 +59,7 @@ module _ (file : List ℕ) where
   pub listed-text : verdict (file_checks file) ≡ 0 → listed file ≡ text_of file
   unfolding text_of
   listed-text z = ap printed (answer-given refl z refl)
+
+pub length-refused : (k : ℕ) → length (refused_line k) ≤ 20
+unfolding refused_line
+length-refused k = rw (length-append (decimal_of (pos k)) ending) (omega (arith, length_word (pos k)))
