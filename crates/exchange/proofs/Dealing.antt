@@ -1,4 +1,4 @@
--- Laws of the dealt words: a slot from the one above, what is sent on a longer path, and what a card's vote goes by.
+-- Laws of the dealt words: what a card of each status sends, a slot from the one above, what is sent on a longer path, and what a card's vote goes by.
 use Prim.Native.Nat.{ℕ, zero, suc, ◌+◌, ◌≤◌, ◌<◌}
 use mathlib.Core.Path.{◌≡◌, refl, sym, ap, ◌∙◌}
 use mathlib.Core.Bool.{Bool, true, cond, ◌&&◌}
@@ -11,6 +11,7 @@ use lib.IntN.{ℤ, pos}
 use lib.ListN.{length, length-set, get_or, set}
 use Rattle.ground.specs.Lists.{at, table}
 use Rattle.ground.proofs.Lists.{length-table, at_table}
+use Rattle.words.specs.Word.{E}
 use Rattle.words.specs.Rule.{Rule}
 use Rattle.settings.specs.Settings.{slots}
 use Rattle.settings.specs.declared.Turn.{Turn}
@@ -26,6 +27,28 @@ use Rattle.exchange.specs.declared.Status.{Status}
 use Rattle.exchange.specs.declared.Sent.{Sent}
 use Rattle.exchange.specs.Exchange.{Exchange, exchange, status_of, settings_for, sent, dealt_at, dealt, received, answer_of}
 use Rattle.exchange.specs.Sending.{sent_to, Sends, Deals, by, DealsFrom}
+
+-- ---- by the status byte
+
+module _ (s : ℕ) (word own first : ℤ) where
+  pub sent_good : s ≡ 0 → word ≡ sent (status_of s) word own first
+  unfolding status_of sent
+  sent_good e = rw e
+
+  pub sent_arbitrary : s ≡ 1 → own ≡ sent (status_of s) word own first
+  unfolding status_of sent
+  sent_arbitrary e = rw e
+
+  pub sent_symmetric : s ≡ 2 → first ≡ sent (status_of s) word own first
+  unfolding status_of sent
+  sent_symmetric e = rw e
+
+pub sent_manifest : (s : ℕ) (word own first : ℤ) → (s ≡ 0 → ⊥) → (s ≡ 1 → ⊥) → (s ≡ 2 → ⊥) → E ≡ sent (status_of s) word own first
+unfolding status_of sent
+sent_manifest zero word own first a b c = absurd (a refl)
+sent_manifest (suc zero) word own first a b c = absurd (b refl)
+sent_manifest (suc (suc zero)) word own first a b c = absurd (c refl)
+sent_manifest (suc (suc (suc s))) word own first a b c = refl
 
 -- ---- slot by slot
 
@@ -54,7 +77,7 @@ module _ (R : Rule) (X : Exchange) where
   sends_first q = refl
 
   -- and on a longer one its last relay
-  sends_below : (d k q : ℕ) (status : Status) (word : ℤ) {relayed : ℤ} → k < 111 → level k ≡ d → q < 10 → relayed ≡ R.wrap (R.read d (sent status word (X.tabled k q) (X.tabled k 0))) → Sends R X k status word → Sends R X (below k q) (X.status q) relayed
+  pub sends_below : (d k q : ℕ) (status : Status) (word : ℤ) {relayed : ℤ} → k < 111 → level k ≡ d → q < 10 → relayed ≡ R.wrap (R.read d (sent status word (X.tabled k q) (X.tabled k 0))) → Sends R X k status word → Sends R X (below k q) (X.status q) relayed
   sends_below d k q status word h l g e s p = rw (e, ← l, s q) (sym (dealt-below R X k q h g p))
 
 -- all but an arbitrary card send one word to all
@@ -66,7 +89,7 @@ sent-all (suc (suc zero)) word own other first n = refl
 sent-all (suc (suc (suc k))) word own other first n = refl
 
 -- only a good card's word is looked at
-only_good : (status : ℕ) (word other own first : ℤ) → (status ≡ 0 → word ≡ other) → sent (status_of status) word own first ≡ sent (status_of status) other own first
+pub only_good : (status : ℕ) (word other own first : ℤ) → (status ≡ 0 → word ≡ other) → sent (status_of status) word own first ≡ sent (status_of status) other own first
 unfolding status_of sent
 only_good zero word other own first e = e refl
 only_good (suc zero) word other own first e = refl
@@ -74,7 +97,7 @@ only_good (suc (suc zero)) word other own first e = refl
 only_good (suc (suc (suc k))) word other own first e = refl
 
 -- what a good relay sends on of what it received, told what it would be of another card's word
-on_good : (R : Rule) (d status by : ℕ) (word own other first told : ℤ) → told ≡ R.wrap (R.read d (sent (status_of status) word other first)) → by ≡ 0 → cond (eqb status 1 && eqb by 0) (R.wrap (R.read d (sent (status_of status) word own first))) told ≡ R.wrap (R.read d (sent (status_of status) word own first))
+pub on_good : (R : Rule) (d status by : ℕ) (word own other first told : ℤ) → told ≡ R.wrap (R.read d (sent (status_of status) word other first)) → by ≡ 0 → cond (eqb status 1 && eqb by 0) (R.wrap (R.read d (sent (status_of status) word own first))) told ≡ R.wrap (R.read d (sent (status_of status) word own first))
 on_good R d status by word own other first told e z = rw z (go (ℕ_discrete status 1))
   where
     go : Dec (status ≡ 1) → cond (eqb status 1 && true) (R.wrap (R.read d (sent (status_of status) word own first))) told ≡ R.wrap (R.read d (sent (status_of status) word own first))
