@@ -1,22 +1,23 @@
 -- Laws of a book in one list: its two halves.
 use Prim.Native.Nat.{ℕ, zero, suc, ◌+◌, ◌≤◌, min}
 use mathlib.Core.Path.{◌≡◌, refl, sym, ap, ap₂, ◌∙◌}
-use mathlib.Core.Bool.{Bool, true, false}
+use mathlib.Core.Bool.{Bool, true, false, not, true≢false}
 use mathlib.Core.List.{List, [], ◌∷◌, ◌++◌, append-nil}
 use native.Mathlib.Omega.{arith}
 use native.Mathlib.Nat.{zero-add, suc-add}
-use lib.Dec.{leb, leb→le}
+use lib.Dec.{eqb, leb, leb→le}
 use lib.IntN.{ℤ}
 use lib.ListN.{length, replicate, take, drop, take-append-drop, drop_of_length-le, length-drop, length-append, length-replicate}
 use lib.Seq.{length-take-le, take_all, take_at, drop_at}
-use borrow.Author.Tests.{leb-false}
+use borrow.Author.Tests.{eq-eqb, ne_eqb, leb-false}
 use Rattle.std.proofs.lemmas.List.{take_min, drop_min, nil_from_length}
 use Rattle.ground.specs.Answer.{Outcome, outcome, of_result}
 use Rattle.std.specs.Prelude.{Result}
 use Rattle.ground.specs.declared.refusal.Refusal.{Refusal}
 use Rattle.ground.proofs.Answers.{outcome_apart}
 use Rattle.settings.specs.Settings.{slots}
-use Rattle.book.specs.Book.{Book, book_of, halves, Sized}
+use Rattle.book.specs.Book.{Book, book_of, halves, sized, Sized}
+use Rattle.book.proofs.Asking.{sized_both, both_sized}
 
 -- words and then votes have just these halves
 pub halves_joined : (words votes : List ℤ) → length words ≡ slots → halves (words ++ votes) ≡ book_of words votes
@@ -42,6 +43,14 @@ halves-sized l e = record { words_long = length-take-le slots l (omega arith); v
 pub sized-halves : (l : List ℤ) → Sized (halves l) → length l ≡ 2222
 sized-halves l z =
     ap length (sym (take-append-drop slots l)) ∙ length-append (take slots l) (drop slots l) ∙ omega (arith, z.words_long, z.votes_long)
+
+-- as a test
+pub halves_long : (l : List ℤ) → not (eqb (length l) 2222) ≡ not (sized (halves l))
+halves_long l = go (sized (halves l)) refl
+  where
+    go : (b : Bool) → sized (halves l) ≡ b → not (eqb (length l) 2222) ≡ not (sized (halves l))
+    go true q = rw (eq-eqb (length l) 2222 (sized-halves l (sized_both (halves l) (ap not q))), q)
+    go false q = rw (ne_eqb (length l) 2222 (λ e. let z = both_sized (halves l) (halves-sized l e) in true≢false (sym (ap not q) ∙ z)), q)
 
 -- a word everywhere is that word everywhere in both halves
 pub halves-same : (n : ℕ) (w : ℤ) → n ≡ 2222 → halves (replicate n w) ≡ book_of (replicate slots w) (replicate slots w)

@@ -23,6 +23,10 @@ use Rattle.frames.proofs.Asking.{Passed, passed_all}
 
 -- ---- from a record to its frame and back
 
+pub length-bytes : (f : Frame) → length (bytes_of f) ≡ 17
+unfolding bytes_of bytes16 bytes32
+length-bytes f = refl
+
 module _ (f : Frame) (r : InRange f) where
   frame-bytes : frame_of (bytes_of f) ≡ f
   unfolding frame_of bytes_of bytes16 bytes32 be16 be32

@@ -10,6 +10,7 @@ use lib.Dec.{T, ltb}
 use lib.IntN.{ℤ, pos}
 use lib.ListN.{length, get_or, set, length-set}
 use lib.Seq.{ext_get_or, get_or-set_same, get_or-set_other}
+use borrow.Author.Count.{below_more}
 use borrow.Author.Tests.{ltb-true, ltb-false}
 use Rattle.std.specs.List.{filter, range_with_len}
 use Rattle.ground.specs.Lists.{at, table, over, count, some_of}
@@ -67,6 +68,14 @@ module _ {n : ℕ} {f : ℕ → ℤ} {before : List ℤ} {k : ℕ} {l : List ℤ
       long = length-set l k v ∙ r.long;
       done = set_next f l k v (pos 0) (omega (arith, r.long)) r.done e;
       rest = λ j g. get_or-set_other l k j v (pos 0) (λ q. omega arith) ∙ r.rest j (omega arith);
+    })
+
+    pub passed_same : at before k ≡ f k → after ≡ l → Passed n f before (k + 1) after
+    passed_same e a = rw a (record {
+      upto = omega arith;
+      long = r.long;
+      done = below_more (λ j. at l j ≡ f j) k r.done (r.rest k (omega arith) ∙ e);
+      rest = λ j g. r.rest j (omega arith);
     })
 
   -- where f changes no place from k on, the list is f's table
@@ -128,6 +137,11 @@ over_snoc p f (suc c) q = go (p q) _ (over_snoc p f c (suc q) ∙ ap (λ (x : �
 -- ---- some of a table
 
 module _ (f : ℕ → Bool) where
+  pub none-of : (c s : ℕ) → ((q : ℕ) → q < s + c → f q ≡ false) → some_of (table c s f) ≡ false
+  unfolding some_of table
+  none-of zero s h = refl
+  none-of (suc c) s h = rw (h s (omega arith)) (none-of c (suc s) (λ q a. h q (omega arith)))
+
   pub one_of : (c s q : ℕ) → s ≤ q → q < s + c → f q ≡ true → some_of (table c s f) ≡ true
   unfolding some_of table
   one_of zero s q a b e = absurd (omega arith)
@@ -148,6 +162,18 @@ module _ (f : ℕ → Bool) where
       go : (b : Bool) (l : List ℕ) → length l ≡ count f c (suc q) → length (cond b (q ∷ l) l) ≡ cond b (suc (count f c (suc q))) (count f c (suc q))
       go true l e = ap suc e
       go false l e = e
+
+  -- one more card, that passes or does not
+  count_snoc : (c q : ℕ) → count f (suc c) q ≡ count f c q + cond (f (q + c)) 1 0
+  unfolding count
+  count_snoc zero q = grind arith
+  count_snoc (suc c) q = grind (arith, count_snoc c (suc q))
+
+  pub count_yes : (q : ℕ) → f q ≡ true → count f (q + 1) 0 ≡ count f q 0 + 1
+  count_yes q e = grind (arith, count_snoc q 0)
+
+  pub count_no : (q : ℕ) → f q ≡ false → count f (q + 1) 0 ≡ count f q 0
+  count_no q e = grind (arith, count_snoc q 0)
 
   count-few : (c q : ℕ) → count f c q ≤ c
   unfolding count

@@ -79,6 +79,22 @@ room_zero (suc zero) = omega arith
 room_zero (suc (suc zero)) = omega arith
 room_zero (suc (suc (suc r))) = omega arith
 
+-- a longer path leaves room for a round less
+pub room_less : (r k q : ℕ) → r + 1 ≤ 3 → k < room (r + 1) → q < 10 → below k q < room r
+room_less zero k q a b c = omega arith
+room_less (suc zero) k q a b c = omega arith
+room_less (suc (suc zero)) k q a b c = omega arith
+room_less (suc (suc (suc r))) k q a b c = absurd (omega arith)
+
+pub room_most : (r k : ℕ) → k < room r → k < 1111
+room_most zero k h = omega arith
+room_most (suc zero) k h = omega arith
+room_most (suc (suc zero)) k h = omega arith
+room_most (suc (suc (suc r))) k h = omega arith
+
+pub room_back : (r : ℕ) → (r ≡ 0 → ⊥) → room (r - 1 + 1) ≡ room r
+room_back r n = let e : r - 1 + 1 ≡ r = omega arith in cc
+
 -- a live slot leaves room for the rounds left
 live-room : (s : Settings) (k r : ℕ) → T (live s k) → s.rack.m ≤ 3 → r ≡ s.rack.m - level k → k < room r
 live-room s k r t few e = go r e

@@ -6,10 +6,12 @@ use mathlib.Core.Logic.{◌⊎◌, inl, inr}
 use native.Mathlib.Omega.{arith}
 use borrow.Author.Tests.{leb-true, leb-false, ltb-true, ltb-false, le-leb, lt-leb, lt-ltb}
 use lib.Dec.{leb, ltb}
-use lib.IntN.{ℤ, nat_abs}
+use lib.IntN.{ℤ, pos, negsuc, nat_abs}
+use lib.Signed.{lt_z}
+use Rattle.std.proofs.lemmas.Bool.Decides.{nat_tests}
 use Rattle.words.specs.Word.{kind_of, missing, E, read_at, wrapped, unwrapped}
 use Rattle.words.specs.declared.Kind.TheVariants.{Ordinary, Bad}
-use Rattle.words.proofs.ByKind.{kind_missing, View, ordinary, wraps, bad, view, ordinary_not}
+use Rattle.words.proofs.ByKind.{kind_missing, View, ordinary, wraps, bad, view, ordinary_not, below}
 
 -- ---- each operation on each kind
 
@@ -125,3 +127,18 @@ unwrap_reads d x (as_missing w h l e) = as_missing (w - 1) (omega arith) (omega 
 pub read_0 : (x : ℤ) → Reads 0 x → (kind_of x ≡ Ordinary) ⊎ (x ≡ E)
 read_0 x (as_ordinary e) = inl e
 read_0 x (as_missing w h l e) = let q : w ≡ 0 = omega arith in inr (e ∙ ap missing q)
+
+-- ---- what a `match` over one range tells: it ends d above E, where d is the level, and 3 for a level over 3
+
+pub low_reads : (l : ℕ) (x : ℤ) → lt_z x (negsuc 999999998) ≡ true → read_at l x ≡ E
+low_reads l x h = read_bad l x (below x h)
+
+pub within_reads : (l d : ℕ) → d ≡ l - (l - 3) → (x : ℤ) → lt_z x (negsuc 999999998) ≡ false → lt_z x (pos (1000000001 + d)) ≡ true → read_at l x ≡ x
+unfolding kind_of read_at
+within_reads l d q (pos n) g h = grind (arith, nat_tests)
+within_reads l d q (negsuc n) g h = grind (arith, nat_tests)
+
+pub high_reads : (l d : ℕ) → d ≡ l - (l - 3) → (x : ℤ) → lt_z x (pos (1000000001 + d)) ≡ false → read_at l x ≡ E
+unfolding kind_of read_at
+high_reads l d q (pos n) h = grind (arith, nat_tests)
+high_reads l d q (negsuc n) h = grind (arith, nat_tests)
