@@ -1,10 +1,10 @@
 -- Laws of the search for the majority: how many words are left, how often one recurs, what a turn of the search tells, and that told rightly it finds the majority.
 use Prim.Native.Nat.{ℕ, suc, ◌+◌, ◌*◌, ◌/◌, ◌<◌, ◌≤◌}
-use mathlib.Core.Path.{◌≡◌, refl, ap}
+use mathlib.Core.Path.{◌≡◌, refl, ap, ◌∙◌}
 use mathlib.Core.Bool.{Bool, true, false, cond, not, ◌&&◌}
 use mathlib.Core.List.{List, [], ◌∷◌, ◌++◌}
 use native.Mathlib.Omega.{arith}
-use borrow.Author.Tests.{lt-ltb, le-ltb}
+use borrow.Author.Tests.{lt-ltb, le-ltb, le-leb}
 use lib.Dec.{ltb, leb}
 use lib.IntN.{ℤ, pos}
 use lib.ListN.{length, drop, get_or}
@@ -86,7 +86,13 @@ module _ (s : ℤ → Bool) (e : ℤ) (n : ℕ) where
       go false true p q = sought_here e n x (kept s xs) (grind (arith, nat_tests, occurs-kept s x xs))
       go false false p q = sought_after e n x (kept s xs) (grind (arith, nat_tests, occurs-kept s x xs))
 
-pub ruleset searching = (common_steps, take_rest, search_end, search_first, told_same, told_other, occurs_none, occurs_rest)
+  -- a word that is not struck and recurs so is found
+  pub search_found : (l : List ℤ) → 0 < length l → s (get_or l 0 (pos 0)) ≡ false → n / 2 ≤ occurs (get_or l 0 (pos 0)) (drop 1 l) → majority_of s e n l ≡ get_or l 0 (pos 0)
+  search_found l h out many = search_first l h ∙ rw (out, le-leb (n / 2) (occurs (get_or l 0 (pos 0)) (drop 1 l)) many)
+
+pub ruleset recounting = (common_steps, take_rest, told_same, told_other, occurs_rest)
+
+pub ruleset searching = (recounting, search_end, search_first, occurs_none)
 
 -- ---- told rightly
 

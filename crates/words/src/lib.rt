@@ -134,13 +134,12 @@ fn majority_of(list: &[i32], n: usize) -> i32
             if half == 0 {
                 break 'outer word;
             }
-            let mut seen = 1;
+            // Counted without a branch: whether the next word is the same one cannot be foretold.
+            let mut wanted = half;
             for &other in rest {
-                if other == word {
-                    seen += 1;
-                    if half < seen {
-                        break 'outer word;
-                    }
+                wanted -= usize::from(other == word);
+                if wanted == 0 {
+                    break 'outer word;
                 }
             }
         }

@@ -1,6 +1,6 @@
 -- `words::majority_of`: the search finds in `rest` what it finds in the list; too few of a word are seen, and the others of them are still to come.
 use mathlib.Core.Path.{◌≡◌}
-use Prim.Native.Nat.{◌≤◌, ◌+◌}
+use Prim.Native.Nat.{◌<◌, ◌≤◌, ◌+◌}
 use lib.ListN.{length, drop}
 use Rattle.words.specs.Word.{E}
 use Rattle.words.specs.Majority.{occurs}
@@ -15,4 +15,4 @@ abbrev pub decreases-outer : goal.decreases-outer
 decreases-outer l = length l.rest
 
 abbrev pub invariant-loop-other : goal.invariant-loop-other
-invariant-loop-other l = (l.seen ≤ l.half) × (l.seen + occurs l.word (drop l.other-index l.rest) ≡ 1 + occurs l.word l.rest)
+invariant-loop-other l = (0 < l.wanted) × (l.wanted ≤ l.half) × (l.half + occurs l.word (drop l.other-index l.rest) ≡ l.wanted + occurs l.word l.rest)
