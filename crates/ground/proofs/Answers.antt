@@ -3,15 +3,17 @@ use Prim.Native.Nat.{ℕ, zero, suc}
 use mathlib.Core.Path.{◌≡◌, refl, sym, ap, ◌∙◌}
 use native.Mathlib.Omega.{arith}
 use mathlib.Core.List.{List, [], ◌∷◌, ◌++◌}
-use lib.Dec.{T}
+use mathlib.Core.Bool.{Bool, true, false, cond}
+use lib.Dec.{T, eqb}
 use lib.ListN.{get_or}
+use borrow.Author.Tests.{eqb-true, eqb-false}
 use Rattle.std.specs.Prelude.{Result, Ok, Err}
 use Rattle.std.specs.Result.{IsErrAnd}
 use Rattle.std.proofs.lemmas.Result.{err_from_is_err_and}
 use Rattle.ground.specs.Refusal.{number}
-use Rattle.ground.specs.Checks.{Check, verdict}
-use Rattle.ground.proofs.Verdicts.{proper, rest_decides, still_refused}
-use Rattle.ground.specs.Answer.{Answer, value, refused, answer, Outcome, outcome, after, outcome_by, refusal_of, of_result}
+use Rattle.ground.specs.Checks.{Check, verdict, next}
+use Rattle.ground.proofs.Verdicts.{proper, stays, rest_decides, still_refused}
+use Rattle.ground.specs.Answer.{Answer, value, refused, answer, Outcome, outcome, after, outcome_by, refusal_by, refusal_of, of_result, earlier}
 use Rattle.ground.specs.declared.refusal.Refusal.{Refusal}
 use Rattle.ground.specs.declared.refusal.Refusal.TheVariants.{Cards, Rounds, Sender, Own, Long, Value, Status, Path, Size, Mark, Version, Old, Ahead, Form, Foreign, Exception}
 
@@ -114,6 +116,16 @@ outcome_apart {A} {L} x y e =
     let a = result_apart x y (ap (λ (o : Outcome (Answer A) L). o.yields) e) in
     let b = ap (λ (o : Outcome (Answer A) L). o.leaves) e in
     λ i. outcome (a i) (b i)
+
+-- the earlier of two by what numbers refusals: the number of the first, or of the second where that is 0
+pub earlier_number : {R A : Type 0} (f : R → ℕ) (x y : Result A R) → refusal_by f (earlier f x y) ≡ next (refusal_by f x) (refusal_by f y)
+unfolding next
+earlier_number f (Ok a) y = refl
+earlier_number f (Err r) y = go (eqb (f r) 0) refl
+  where
+    go : (b : Bool) → eqb (f r) 0 ≡ b → refusal_by f (cond b y (Err r)) ≡ next (f r) (refusal_by f y)
+    go true e = rw (eqb-true (f r) 0 e)
+    go false e = stays (f r) (refusal_by f y) (eqb-false (f r) 0 e)
 
 -- ---- what a `?` answers where it leaves with the refusal r
 

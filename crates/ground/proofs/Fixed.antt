@@ -3,10 +3,13 @@ use Prim.Native.Nat.{ℕ}
 use mathlib.Core.Path.{sym, ◌∙◌}
 use mathlib.Core.Bool.{Bool}
 use lib.IntN.{ℤ}
+use mir.Syntax.{Dict}
+use denote.RattleType.{RattleType}
+use denote.Param.Laws.{Laws, IsCopy}
 use Rattle.std.specs.Prelude.{Result}
 use Rattle.ground.specs.Fixes.{Fixes}
-use Rattle.ground.specs.declared.refusal.Refusal.{Refusal}
-use Rattle.ground.proofs.Answers.{refusal_apart}
+use Rattle.std.specs.declared.clone.Clone.{Ghosts as Clone}
+use Rattle.ground.specs.declared.refusal.Numbered.{Ghosts as Numbered}
 use Rattle.ground.proofs.refusal.Refusal.number.Kinds as number
 use Rattle.ground.proofs.refusal.Refusal.number.Reads as number_says
 use Rattle.ground.proofs.refusal.when.Kinds as when
@@ -29,11 +32,13 @@ use Rattle.ground.proofs.bytes.to_bits.Reads as to_bits_says
 pub number_fixed : Fixes 0 number.ps number.r number_says.Post ℕ (λ κs x s. x)
 number_fixed κs a x y s t p q = p ∙ sym q
 
-pub when_fixed : Fixes 0 when.ps when.r when_says.Post (Result (Unit {0}) Refusal) (λ κs x s. x)
-when_fixed κs a x y s t p q = refusal_apart x y (p ∙ sym q)
+-- of every type of refusal T
+module _ (T : RattleType) (l : Laws T) (c : IsCopy T) (n : Numbered T.Denot) (d : Dict) (k : Clone T.Denot) (e : Dict) where
+  pub when_fixed : Fixes 1 (when.ps T l c) (when.r T l c) (when_says.Post T l c n d k e) (Result (Unit {0}) T.Denot) (λ κs x s. x)
+  when_fixed κs a x y s t p q = p.1 ∙ sym q.1
 
-pub first_fixed : Fixes 0 first.ps first.r first_says.Post (Result (Unit {0}) Refusal) (λ κs x s. x)
-first_fixed κs a x y s t p q = refusal_apart x y (p ∙ sym q)
+  pub first_fixed : Fixes 1 (first.ps T l c) (first.r T l c) (first_says.Post T l c n d k e) (Result (Unit {0}) T.Denot) (λ κs x s. x)
+  first_fixed κs a x y s t p q = p.1 ∙ sym q.1
 
 pub starts_with_fixed : Fixes 2 starts_with.ps starts_with.r starts_with_says.Post Bool (λ κs x s. x)
 starts_with_fixed κs a x y s t p q = p ∙ sym q

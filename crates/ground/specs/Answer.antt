@@ -1,5 +1,5 @@
 -- Document 01, 'Refusal numbers': what a call yields and leaves. A refusal yields its number only; no lent memory changes.
-use Rattle.std.specs.Prelude.{ℕ, zero, suc, Result, Ok, Err}
+use Rattle.std.specs.Prelude.{ℕ, zero, suc, cond, eqb, Result, Ok, Err}
 use Rattle.ground.specs.Refusal.{number}
 use Rattle.ground.specs.declared.refusal.Refusal.{Refusal}
 
@@ -32,10 +32,19 @@ outcome_by v before made = outcome (answer v tt) (after v before made)
 
 -- ---- the answers of the code
 
--- the number of the refusal; 0 for none
+-- the number of the refusal, by what numbers refusals; 0 for none
+abbrev pub refusal_by : {R A : Type 0} → (R → ℕ) → Result A R → ℕ
+refusal_by f (Ok a) = 0
+refusal_by f (Err r) = f r
+
+-- the same of the code's refusals
 abbrev pub refusal_of : {A : Type 0} → Result A Refusal → ℕ
-refusal_of (Ok a) = 0
-refusal_of (Err r) = number r
+refusal_of = refusal_by number
+
+-- the first answer where it is a refusal whose number is not 0, else the other
+abbrev pub earlier : {R A : Type 0} → (R → ℕ) → Result A R → Result A R → Result A R
+earlier f (Ok a) other = other
+earlier f (Err r) other = cond (eqb (f r) 0) other (Err r)
 
 abbrev pub of_result : {A : Type 0} → Result A Refusal → Answer A
 of_result (Ok a) = value a

@@ -20,4 +20,4 @@ unfolding frame_asked
 returns-in-Err c =
     let a = c.args in
     let b = book_of a.words.now a.votes.now in
-    arrival_refused (book_checks a.s b) tt a.s a.current a.bytes.now b (book_made a.s b) _ c.in-Err.ensures c.first.ensures c.book_refused.ensures
+    arrival_refused (book_checks a.s b) tt a.s a.current a.bytes.now b (book_made a.s b) _ c.in-Err.ensures c.first.ensures.asked c.book_refused.ensures

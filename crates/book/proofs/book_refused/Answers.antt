@@ -7,4 +7,4 @@ use Rattle.book.proofs.book_refused.Goals as goal
 
 pub returns : goal.returns
 returns c =
-    joined (settings_checks c.args.s) _ tt c.first.ensures c.settings_refused.ensures (alone 5 c.when.ensures (ap not c.is_whole.ensures))
+    joined (settings_checks c.args.s) _ tt c.first.ensures.asked c.settings_refused.ensures (alone 5 c.when.ensures.asked (ap not c.is_whole.ensures))

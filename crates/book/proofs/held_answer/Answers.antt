@@ -14,11 +14,11 @@ use Rattle.book.proofs.held_answer.Goals as goal
 use Rattle.book.proofs.held_answer.Goals.{In_ok-when}
 
 pub returns-in_err-when : goal.returns-in_err-when
-returns-in_err-when c = leaves_answer _ _ c.from_residual.ensures.1 (alone 5 c.in_err-when.ensures (ap not c.is_whole.ensures)) _
+returns-in_err-when c = leaves_answer _ _ c.from_residual.ensures.1 (alone 5 c.in_err-when.ensures.asked (ap not c.is_whole.ensures)) _
 
 -- no refusal
 passes : (c : In_ok-when) → let a = c.args in 0 ≡ verdict (held_checks (book_of a.words.now a.votes.now))
-passes c = alone 5 c.in_ok-when.ensures (ap not c.is_whole.ensures)
+passes c = alone 5 c.in_ok-when.ensures.asked (ap not c.is_whole.ensures)
 
 pub bounds-votes-0 : goal.bounds-votes-0
 bounds-votes-0 c =

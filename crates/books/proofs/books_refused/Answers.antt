@@ -6,4 +6,4 @@ use Rattle.books.proofs.books_refused.Goals as goal
 
 pub returns : goal.returns
 returns c =
-    joined (settings_checks c.args.s) _ tt c.first.ensures c.settings_refused.ensures (alone 5 c.when.ensures refl)
+    joined (settings_checks c.args.s) _ tt c.first.ensures.asked c.settings_refused.ensures (alone 5 c.when.ensures.asked refl)

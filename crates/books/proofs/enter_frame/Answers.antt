@@ -28,4 +28,4 @@ unfolding books_frame_asked
 returns-in-Err c =
     let a = c.args in
     let l = a.books.now in
-    arrival_refused (books_checks a.s l) tt a.s a.current a.bytes.now l (made a.s l) _ c.in-Err.ensures c.first.ensures c.books_refused.ensures
+    arrival_refused (books_checks a.s l) tt a.s a.current a.bytes.now l (made a.s l) _ c.in-Err.ensures c.first.ensures.asked c.books_refused.ensures

@@ -13,9 +13,9 @@ returns-in_err-rack_refused c =
 pub returns-in_err-when : goal.returns-in_err-when
 returns-in_err-when c =
     leaves_refusal _ _ c.from_residual-in_err-when.ensures.1
-    (then-decided (rack_checks c.args.rack) _ tt c.in_ok-rack_refused.ensures (refused-first (check 5 _ ∷ []) _ tt _ c.in_err-when.ensures))
+    (then-decided (rack_checks c.args.rack) _ tt c.in_ok-rack_refused.ensures (refused-first (check 5 _ ∷ []) _ tt _ c.in_err-when.ensures.asked))
 
 pub returns : goal.returns
 returns c =
     then-decided (rack_checks c.args.rack) _ tt c.in_ok-rack_refused.ensures
-    (then-decided (check 5 _ ∷ []) _ tt c.in_ok-when.ensures (alone 7 c.when-2.ensures c.statuses_bad.ensures))
+    (then-decided (check 5 _ ∷ []) _ tt c.in_ok-when.ensures.asked (alone 7 c.when-2.ensures.asked c.statuses_bad.ensures))

@@ -32,17 +32,17 @@ returns-in_err-card_refused c =
 
 pub returns-in_err-when : goal.returns-in_err-when
 unfolding word_asked
-returns-in_err-when c = leaves_answer _ _ c.from_residual-in_err-when.ensures.1 (told (goal.at.returns-in_err-when c).After-when c.in_err-when.ensures) _
+returns-in_err-when c = leaves_answer _ _ c.from_residual-in_err-when.ensures.1 (told (goal.at.returns-in_err-when c).After-when c.in_err-when.ensures.asked) _
 
 pub dealt_at-requires : goal.dealt_at-requires
 dealt_at-requires c =
     let a = c.args in
-    let both = no_verdicts (card_checks a.s a.x a.statuses.now (inputs_long a.statuses.now a.table.now)) _ tt (sym (told (goal.at.dealt_at-requires c).After-when c.in_ok-when.ensures)) in
+    let both = no_verdicts (card_checks a.s a.x a.statuses.now (inputs_long a.statuses.now a.table.now)) _ tt (sym (told (goal.at.dealt_at-requires c).After-when c.in_ok-when.ensures.asked)) in
     let given = card-asked a.s a.x a.statuses.now _ both.0 in
     (deals _ a.statuses.now a.table.now given.0.turn given.1, live-slot a.s a.slot (holds (live a.s a.slot) (no_verdict _ tt both.1).0), own-card a.s given.0)
 
 pub returns : goal.returns
 unfolding word_asked
 returns c =
-    answer-given (told (goal.at.returns c).After-when c.in_ok-when.ensures) refl
+    answer-given (told (goal.at.returns c).After-when c.in_ok-when.ensures.asked) refl
     (back_is (sfits_of c.dealt_at.type_inv) ∙ rw (back_is c.ranges.x) at (c.dealt_at.ensures c.args.s.rack))

@@ -28,14 +28,14 @@ returns-in_err-when c =
     let a = c.args in
     leaves_outcome _ _ c.from_residual-in_err-when.ensures.1
     (then-decided (book_checks a.s (book_of a.words.now a.votes.now)) _ tt c.in_ok-book_refused.ensures
-    (alone 8 c.in_err-when.ensures (ap not (in_tells a.s a.slot c.may_relay-members.ensures c.live_in-live.ensures)))) _ _
+    (alone 8 c.in_err-when.ensures.asked (ap not (in_tells a.s a.slot c.may_relay-members.ensures c.live_in-live.ensures)))) _ _
 
 -- no refusal
 passes : (c : In_ok-when) → let a = c.args in 0 ≡ verdict (slot_checks a.s (book_of a.words.now a.votes.now) a.slot)
 passes c =
     let a = c.args in
     then-decided (book_checks a.s (book_of a.words.now a.votes.now)) _ tt c.in_ok-book_refused.ensures
-    (alone 8 c.in_ok-when.ensures (ap not (in_tells a.s a.slot c.may_relay-members.ensures c.live_in-live.ensures)))
+    (alone 8 c.in_ok-when.ensures.asked (ap not (in_tells a.s a.slot c.may_relay-members.ensures c.live_in-live.ensures)))
 
 -- what an entering is given
 given : (c : In_ok-when) → let a = c.args in Enters a.s (book_of a.words.now a.votes.now) c.live_in-live.new.members a.slot

@@ -5,4 +5,4 @@ use Rattle.settings.specs.Settings.{settings_checks}
 use Rattle.exchange.proofs.card_refused.Goals as goal
 
 pub returns : goal.returns
-returns c = joined (settings_checks c.args.s) _ tt c.first.ensures c.settings_refused.ensures (search rules)
+returns c = joined (settings_checks c.args.s) _ tt c.first.ensures.asked c.settings_refused.ensures (search rules)

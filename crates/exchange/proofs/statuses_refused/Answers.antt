@@ -5,4 +5,4 @@ use Rattle.exchange.proofs.statuses_refused.Goals as goal
 
 pub returns : goal.returns
 returns c =
-    joined _ _ tt c.first.ensures (alone 7 c.when.ensures c.statuses_bad.ensures) (alone 6 c.when-2.ensures (search rules))
+    joined _ _ tt c.first.ensures.asked (alone 7 c.when.ensures.asked c.statuses_bad.ensures) (alone 6 c.when-2.ensures.asked (search rules))

@@ -4,4 +4,4 @@ use Rattle.ground.proofs.Verdicts.{joined}
 use Rattle.exchange.proofs.values_refused.Goals as goal
 
 pub returns : goal.returns
-returns c = joined _ _ tt c.first.ensures c.when.ensures (search rules)
+returns c = joined _ _ tt c.first.ensures.asked c.when.ensures.asked (search rules)

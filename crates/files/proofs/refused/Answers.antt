@@ -40,4 +40,4 @@ returns c =
     let value-is : back c.args.h.x ≡ c.args.h.x = search rules in
     then-decided (shape_checks file) _ tt c.in_ok-shape_refused.ensures
     (then-decided (turn_checks (turn_in file)) _ tt (rw c.requires at c.in_ok-turn_refused.ensures)
-    (then-decided (status_checks (turn_in file).rack (value_in file) (statuses file)) _ tt (rw (value-is, c.requires) at c.in_ok-statuses_refused.ensures) (alone 16 c.when.ensures c.exceptions_bad.ensures)))
+    (then-decided (status_checks (turn_in file).rack (value_in file) (statuses file)) _ tt (rw (value-is, c.requires) at c.in_ok-statuses_refused.ensures) (alone 16 c.when.ensures.asked c.exceptions_bad.ensures)))

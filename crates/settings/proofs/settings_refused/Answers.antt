@@ -12,4 +12,4 @@ returns-in_err-turn_refused c =
 
 pub returns : goal.returns
 returns c =
-    then-decided (turn_checks (turn_of c.args.s)) _ tt c.in_ok-turn_refused.ensures (alone 4 c.when.ensures (ap not c.fits.ensures))
+    then-decided (turn_checks (turn_of c.args.s)) _ tt c.in_ok-turn_refused.ensures (alone 4 c.when.ensures.asked (ap not c.fits.ensures))

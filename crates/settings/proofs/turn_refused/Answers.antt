@@ -12,4 +12,4 @@ returns-in_err-rack_refused c =
 
 pub returns : goal.returns
 returns c =
-    then-decided (rack_checks c.args.turn.rack) _ tt c.in_ok-rack_refused.ensures (alone 3 c.when.ensures (ap not c.fits.ensures))
+    then-decided (rack_checks c.args.turn.rack) _ tt c.in_ok-rack_refused.ensures (alone 3 c.when.ensures.asked (ap not c.fits.ensures))

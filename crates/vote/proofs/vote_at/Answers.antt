@@ -22,13 +22,13 @@ returns-in_err-words_refused c =
 passes : (c : In_ok-when) → let a = c.args in 0 ≡ verdict (vote_checks a.s a.words.now a.slot)
 passes c =
     let a = c.args in
-    then-decided (words_checks a.s a.words.now) _ tt c.in_ok-words_refused.ensures (alone 8 c.in_ok-when.ensures (ap not (in_tells a.s a.slot c.may_relay-members.ensures c.live_in-live.ensures)))
+    then-decided (words_checks a.s a.words.now) _ tt c.in_ok-words_refused.ensures (alone 8 c.in_ok-when.ensures.asked (ap not (in_tells a.s a.slot c.may_relay-members.ensures c.live_in-live.ensures)))
 
 pub returns-in_err-when : goal.returns-in_err-when
 unfolding vote_asked
 returns-in_err-when c =
     let a = c.args in
-    leaves_answer _ _ c.from_residual-in_err-when.ensures.1 (then-decided (words_checks a.s a.words.now) _ tt c.in_ok-words_refused.ensures (alone 8 c.in_err-when.ensures (ap not (in_tells a.s a.slot c.may_relay-members.ensures c.live_in-live.ensures)))) _
+    leaves_answer _ _ c.from_residual-in_err-when.ensures.1 (then-decided (words_checks a.s a.words.now) _ tt c.in_ok-words_refused.ensures (alone 8 c.in_err-when.ensures.asked (ap not (in_tells a.s a.slot c.may_relay-members.ensures c.live_in-live.ensures)))) _
 
 pub vote_of-requires : goal.vote_of-requires
 vote_of-requires c =

@@ -5,4 +5,4 @@ use Rattle.vote.proofs.words_refused.Goals as goal
 
 pub returns : goal.returns
 returns c =
-    joined (settings_checks c.args.s) _ tt c.first.ensures c.settings_refused.ensures c.when.ensures
+    joined (settings_checks c.args.s) _ tt c.first.ensures.asked c.settings_refused.ensures c.when.ensures.asked
