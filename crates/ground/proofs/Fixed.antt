@@ -33,12 +33,11 @@ pub number_fixed : Fixes 0 number.ps number.r number_says.Post ℕ (λ κs x s. 
 number_fixed κs a x y s t p q = p ∙ sym q
 
 -- of every type of refusal T
-module _ (T : RattleType) (l : Laws T) (c : IsCopy T) (n : Numbered T.Denot) (d : Dict) (k : Clone T.Denot) (e : Dict) where
-  pub when_fixed : Fixes 1 (when.ps T l c) (when.r T l c) (when_says.Post T l c n d k e) (Result (Unit {0}) T.Denot) (λ κs x s. x)
-  when_fixed κs a x y s t p q = p.1 ∙ sym q.1
+pub when_fixed : (T : RattleType) (l : Laws T) (c : IsCopy T) (n : Numbered T.Denot) (d : Dict) (k : Clone T.Denot) (e : Dict) → Fixes 1 (when.ps T l c) (when.r T l c) (when_says.Post T l c n d k e) (Result (Unit {0}) T.Denot) (λ κs x s. x)
+when_fixed T l c n d k e κs a x y s t p q = p.1 ∙ sym q.1
 
-  pub first_fixed : Fixes 1 (first.ps T l c) (first.r T l c) (first_says.Post T l c n d k e) (Result (Unit {0}) T.Denot) (λ κs x s. x)
-  first_fixed κs a x y s t p q = p.1 ∙ sym q.1
+pub first_fixed : (T : RattleType) (l : Laws T) (c : IsCopy T) (n : Numbered T.Denot) (d : Dict) (k : Clone T.Denot) (e : Dict) → Fixes 1 (first.ps T l c) (first.r T l c) (first_says.Post T l c n d k e) (Result (Unit {0}) T.Denot) (λ κs x s. x)
+first_fixed T l c n d k e κs a x y s t p q = p.1 ∙ sym q.1
 
 pub starts_with_fixed : Fixes 2 starts_with.ps starts_with.r starts_with_says.Post Bool (λ κs x s. x)
 starts_with_fixed κs a x y s t p q = p ∙ sym q

@@ -18,6 +18,9 @@ use settings::Settings;
 
 pub mod reports;
 
+// An own report, and one from each of the ten cards.
+pub const REPORTS: usize = Settings::MAX_CARDS + 1;
+
 // The vote at a place; `members` are the cards that may still relay. Inline, so that a vote without longer paths costs the loop no call.
 #[inline(always)]
 #[cycle(instance_over_members)]

@@ -7,11 +7,8 @@ ghost use Rattle.words.specs.Rule.{omh};
 ghost use Rattle.words.specs.Counted.{majority_of};
 ghost use Rattle.vote.specs.Reports.{most_reports};
 
-use settings::Settings;
+use crate::REPORTS;
 use std::marker::Model;
-
-// An own report, and one from each of the ten cards.
-const REPORTS: usize = Settings::MAX_CARDS + 1;
 
 // The number comes first: so the compiler sees that a report which is written leaves it.
 #[derive(Drop)]
