@@ -34,6 +34,15 @@ pub occurs_none : (v : ℤ) → occurs v [] ≡ 0
 unfolding occurs
 occurs_none v = refl
 
+pub occurs_most : (v : ℤ) (l : List ℤ) → occurs v l ≤ length l
+occurs_most v l = omega (arith, occurs_count v l, count_by-le-length (λ x. same x v) l)
+
+-- a list begins with its next word
+pub occurs_first : (v : ℤ) (l : List ℤ) → 0 < length l → occurs v l ≡ cond (same (get_or l 0 (pos 0)) v) 1 0 + occurs v (drop 1 l)
+unfolding occurs
+occurs_first v [] h = absurd (omega arith)
+occurs_first v (x ∷ xs) h = grind (arith, common_steps)
+
 -- what is left of a list begins with its next word
 pub occurs_rest : (v : ℤ) (l : List ℤ) (i : ℕ) → i < length l → occurs v (drop i l) ≡ cond (same (get_or l i (pos 0)) v) 1 0 + occurs v (drop (i + 1) l)
 occurs_rest v l i h = grind (arith, common_steps, occurs_count, sum_by-drop_more (λ (x : ℤ). cond (same x v) 1 0) l i (pos 0) h)
@@ -90,9 +99,13 @@ module _ (s : ℤ → Bool) (e : ℤ) (n : ℕ) where
   pub search_found : (l : List ℤ) → 0 < length l → s (get_or l 0 (pos 0)) ≡ false → n / 2 ≤ occurs (get_or l 0 (pos 0)) (drop 1 l) → majority_of s e n l ≡ get_or l 0 (pos 0)
   search_found l h out many = search_first l h ∙ rw (out, le-leb (n / 2) (occurs (get_or l 0 (pos 0)) (drop 1 l)) many)
 
-pub ruleset recounting = (common_steps, take_rest, told_same, told_other, occurs_rest)
+  -- where it recurs less often the search goes on after it
+  pub search_next : (l : List ℤ) → 0 < length l → s (get_or l 0 (pos 0)) ≡ false → occurs (get_or l 0 (pos 0)) (drop 1 l) < n / 2 → majority_of s e n l ≡ majority_of s e n (drop 1 l)
+  search_next l h out few = grind (arith, common_steps, nat_tests, search_first l h)
 
-pub ruleset searching = (recounting, search_end, search_first, occurs_none)
+pub ruleset recounting = (common_steps, take_rest, told_same, told_other, occurs_first)
+
+pub ruleset searching = (recounting, search_end, search_first, occurs_most)
 
 -- ---- told rightly
 

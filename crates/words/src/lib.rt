@@ -130,17 +130,18 @@ fn majority_of(list: &[i32], n: usize) -> i32
         let word = rest[0];
         rest = &rest[1..];
         if !is_struck(word) {
-            // Once is more than none.
-            if half == 0 {
-                break 'outer word;
-            }
-            // Counted without a branch: whether the next word is the same one cannot be foretold.
-            let mut wanted = half;
-            for &other in rest {
-                wanted -= usize::from(other == word);
-                if wanted == 0 {
+            let mut seen = 1;
+            let mut others = rest;
+            // The count is tested for every word: a branch on whether the next one is the same cannot be foretold.
+            loop {
+                if half < seen {
                     break 'outer word;
                 }
+                if others.is_empty() {
+                    break;
+                }
+                seen += usize::from(others[0] == word);
+                others = &others[1..];
             }
         }
     }
